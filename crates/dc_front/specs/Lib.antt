@@ -1,0 +1,3 @@
+pub mod FirstForm
+pub mod Picking
+pub mod Reading

@@ -1,0 +1,12 @@
+//! The phases of the front in their order: from the bytes of a source to its tree, or to the
+//! first rule that it breaks.
+#![tactic(auto)]
+
+mod form;
+mod lines;
+mod reading;
+mod source;
+mod trees;
+mod value;
+
+pub use source::{Accepted, accept};

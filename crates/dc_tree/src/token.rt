@@ -1,0 +1,40 @@
+use dc_text::DcText;
+
+/// The kind that follows a number after `_`: digits, or a name.
+#[derive(Debug, Drop)]
+pub enum Suffix {
+    Absent,
+    Digits(DcText),
+    Named(DcText),
+}
+
+/// A mark, relation, logical operator or truth. A relation has one mark for both of its spellings.
+#[derive(Clone, Copy, Debug, PartialEq, Eq)]
+pub enum Mark {
+    Open,
+    Close,
+    OpenList,
+    CloseList,
+    Comma,
+    Colon,
+    Colons,
+    Equals,
+    Plus,
+    Minus,
+    Times,
+    Slash,
+    Power,
+    Eq,
+    Ne,
+    Lt,
+    Le,
+    Gt,
+    Ge,
+    Not,
+    And,
+    Or,
+    Eqv,
+    Neqv,
+    True,
+    False,
+}

@@ -1,0 +1,70 @@
+-- From an accepted program to the report of its run.
+use Rattle.std.proofs.Common.{◌≡◌, ℕ, ◌≤◌, Bool, true, not, eqb, leb, ◌&&◌, List, [], ◌∷◌, length, map, take, Option, Some, Result, Ok, Err, refl, sym, ap, ◌∙◌, arith}
+use Rattle.std.specs.Prelude.{ℤ, pos, IfOk, IfSome}
+use Rattle.std.specs.List.{list_all}
+use Rattle.std.proofs.lemmas.Bool.{and_parts, leb-true, le-leb}
+use Rattle.dc_tree.specs.Syntax.{tree, items}
+use Rattle.dc_tree.specs.declared.expr.Expr.{Expr}
+use Rattle.dc_tree.specs.declared.program.Program.{Program}
+use Rattle.dc_tree.proofs.Views.{tree-Name}
+use Rattle.dc_front.specs.FirstForm.{Form, Spells, SpellsValue, is_digit, is_form, is_size, begins_with_zero, program_of}
+use Rattle.dc_front.proofs.Forms.{readable_form}
+use Rattle.docon.specs.Meaning.{number_of, iterations, line_of, value}
+use Rattle.docon.specs.Parts.{Parts, parts_in, is_short, has_short_numbers}
+use Rattle.dc_text.specs.declared.memory.NoMemory.{NoMemory}
+use Rattle.docon.specs.declared.report.Report.{Report}
+use Rattle.docon.specs.Report.{RunReport, IsSourceReport, file_of, read_limit, contents}
+use Rattle.docon.specs.Running.{IsRunnable, Prints}
+use Rattle.docon.specs.Writing.{Reported}
+use Rattle.docon.proofs.Orders.{numbers_of, every_order}
+use Rattle.docon.proofs.PartsLemmas.{parts-program_of}
+
+-- the numbers of a value of the form are short
+pub short-value : (index : ℕ) (bytes : List ℕ) (e : Expr) → SpellsValue index bytes e → has_short_numbers (tree e) ≡ true
+short-value index bytes e spelled = ap (λ (x : Expr). has_short_numbers (tree x)) spelled.1 ∙ ap has_short_numbers (tree-Name (index ∷ []))
+
+pub short-size : (size : List ℕ) → length size ≤ 4 → list_all is_digit size ≡ true → is_short size ≡ true
+short-size size few digits =
+    let short : length size ≤ 9 = omega arith in
+    rw (le-leb _ _ short, digits) refl
+
+-- the parts of the program that a text spells
+abbrev pub parts_from : (text : List ℕ) (program : Program) → Spells text program → Parts
+parts_from text program s = record { size = s.form.size; value = tree s.value }
+
+pub parts-found : (text : List ℕ) (program : Program) (s : Spells text program) → parts_in (items program.body) ≡ Some (parts_from text program s)
+parts-found text program s = ap (λ (p : Program). parts_in (items p.body)) s.program_is ∙ parts-program_of s.form s.value
+
+pub runnable : (text : List ℕ) (program : Program) → Spells text program → IsRunnable program
+runnable text program s =
+    let readable = readable_form s.form s.formed in
+    record {
+      parts = parts_from text program s;
+      found = parts-found text program s;
+      size_short = short-size s.form.size readable.size_few readable.size_digits;
+      value_short = short-value s.form.index s.form.value s.value s.valued;
+    }
+
+pub ran : (text : List ℕ) (program : Program) (s : Spells text program) (line : List ℕ) → Prints program line
+    → RunReport text (record { out = line; log = []; status = 0 })
+ran text program s line prints =
+    let numbers = numbers_of (number_of s.form.size) (tree s.value) in
+    let printed = prints (parts_from text program s) (parts-found text program s) in
+    record {
+      program = program;
+      spelled = s;
+      numbers = numbers;
+      ended = every_order (number_of s.form.size) (tree s.value);
+      is = ap (λ (x : List ℕ). record { out = x; log = []; status = 0 }) printed;
+    }
+
+-- the report of a file that was read
+pub reported : (words : List (List ℕ)) (told : List ℕ → Option (List ℕ)) (before now : ℕ) (file text : List ℕ) (answer : Result Report NoMemory) → file_of words ≡ Some file
+    → IfSome (told file) (λ held. text ≡ take read_limit held) → now ≡ before → IfOk answer (IsSourceReport text) → IfOk answer (Reported words told before now)
+reported words told before now file text (Ok report) named held steady sourced =
+    record {
+      outcome = contents text;
+      read = rw named (held, steady);
+      is_report = rw named sourced;
+    }
+reported words told before now file text (Err e) named held steady sourced = tt

@@ -1,0 +1,45 @@
+-- What the runner takes from a program: the digits of the loop's last limit, and the value that
+-- the loop's one statement assigns.
+use Rattle.std.specs.Prelude.{◌≡◌, ◌≤◌, ℕ, Bool, true, false, ◌&&◌, nat_le, List, [], ◌∷◌, length, Option, Some, None, option_and_then, option_map}
+use Rattle.std.specs.List.{list_all}
+use Rattle.dc_tree.specs.Syntax.{Tree, Item, Items, number, name, binary, plain, loop, none, and_then, tree, items}
+use Rattle.dc_tree.specs.declared.program.Program.{Program}
+use Rattle.dc_tree.specs.declared.stmt.Action.{Action}
+use Rattle.dc_tree.specs.declared.stmt.Stmt.{Stmt}
+use Rattle.dc_front.specs.FirstForm.{is_digit}
+
+pub record Parts : Type 0 where
+  pub size : List ℕ
+  pub value : Tree
+
+abbrev pub digits_in : Tree → Option (List ℕ)
+digits_in (number digits suffix) = Some digits
+digits_in other = None
+
+abbrev pub size_in : Stmt → Option (List ℕ)
+size_in (Stmt.Concurrent label spec (index ∷ []) mask locality) = digits_in (tree index.last)
+size_in other = None
+
+abbrev pub value_in : Stmt → Option Tree
+value_in (Stmt.Act (Action.Assign left right)) = Some (tree right)
+value_in other = None
+
+-- the one statement that a block holds
+abbrev pub only_in : Items → Option Stmt
+only_in (and_then (plain lined) none) = Some lined.stmt
+only_in other = None
+
+-- the head and the block of the loop that a block begins with
+abbrev pub parts_in : Items → Option Parts
+parts_in (and_then (loop head body close) rest) =
+    option_and_then (λ size. option_and_then (λ stmt. option_map (λ value. record { size = size; value = value }) (value_in stmt)) (only_in body)) (size_in head.stmt)
+parts_in other = None
+
+-- each number of an expression has 1 to 9 digits, so it is in the range of kind 4
+abbrev pub is_short : List ℕ → Bool
+is_short digits = nat_le (length digits) 9 && list_all is_digit digits
+
+abbrev pub has_short_numbers : Tree → Bool
+has_short_numbers (number digits suffix) = is_short digits
+has_short_numbers (name text) = true
+has_short_numbers (binary mark left right) = has_short_numbers left && has_short_numbers right

@@ -1,0 +1,52 @@
+ghost use Rattle.std.specs.Prelude.{◌≡◌, IfOk};
+ghost use Rattle.docon.specs.Writing.{Reported, WritesReport, seen};
+
+use crate::command::file_of;
+use crate::report::{Report, only_log, source_report};
+use crate::writing::write_report;
+use dc_outer::{FileFault, Files, Gate, Sink, Source};
+use dc_text::{DcText, NoMemory};
+use std::alloc::Global;
+
+/// The greatest number of bytes of a source.
+const MOST_SOURCE: usize = 1_048_576;
+
+const WORDS: u8 = 5;
+const READ_FAULT: u8 = 6;
+const NO_MEMORY: u8 = 8;
+
+fn report<F: Files>(alloc: Global, words: &[DcText], files: &mut F) -> Result<Report, NoMemory>
+    ensures { IfOk result (Reported words.now (F.told files.old) (F.faults files.old) (F.faults files.new)) }
+{
+    let Some(file) = file_of(words) else {
+        return only_log(alloc, b"words: command", WORDS);
+    };
+    match files.read(alloc, file, MOST_SOURCE) {
+        Ok(text) => source_report(alloc, text.as_slice()),
+        Err(FileFault::Failed) => only_log(alloc, b"read: file", READ_FAULT),
+        Err(FileFault::NoMemory) => Err(NoMemory),
+    }
+}
+
+/// Runs the command that the words of a command line name, without the program's own name, and
+/// answers the status of the process. Statuses and the lines of the log are listed in
+/// `docs/REPORTS.md`.
+pub fn docon<F: Files, S: Source, W: Sink, L: Sink, G: Gate + Sync>(
+    alloc: Global,
+    words: &[DcText],
+    files: &mut F,
+    input: &mut S,
+    out: &mut W,
+    log: &mut L,
+    _gate: &G,
+) -> u8
+    ensures report { WritesReport words.now (F.told files.old) (F.faults files.old) (F.faults files.new)
+        (seen (W.taken out.old) (W.faults out.old)) (seen (W.taken out.new) (W.faults out.new))
+        (seen (L.taken log.old) (L.faults log.old)) (seen (L.taken log.new) (L.faults log.new)) result }
+    ensures input { input.new ≡ input.old }
+{
+    match report(alloc, words, files) {
+        Ok(report) => write_report(&report, out, log),
+        Err(NoMemory) => NO_MEMORY,
+    }
+}

@@ -1,0 +1,42 @@
+ghost use Rattle.std.specs.Prelude.{◌≡◌, ◌≤◌, length, drop};
+ghost use Rattle.docon.specs.Writing.{Seen, seen, Took, FailedIn, WritesAll, IsWritten};
+
+use crate::report::Report;
+use dc_outer::Sink;
+
+fn from(bytes: &[u8], at: usize) -> &[u8]
+    requires { at ≤ length bytes.now }
+    ensures { result.now ≡ drop at bytes.now }
+{
+    &bytes[at..]
+}
+
+/// Writes all bytes. Whether that went well: else a proper prefix stands, and the sink failed.
+pub(crate) fn write_all<W: Sink>(sink: &mut W, bytes: &[u8]) -> bool
+    ensures { WritesAll (seen (W.taken sink.old) (W.faults sink.old)) (seen (W.taken sink.new) (W.faults sink.new)) bytes.now result }
+{
+    let mut done = 0;
+    while done < bytes.len() {
+        match sink.write(from(bytes, done)) {
+            Ok(count) => done += count,
+            Err(_) => return false,
+        }
+    }
+    true
+}
+
+const WRITE_FAULT: u8 = 7;
+
+/// Writes the report, out before the log, and answers its status, or that a write failed.
+pub(crate) fn write_report<W: Sink, L: Sink>(report: &Report, out: &mut W, log: &mut L) -> u8
+    ensures { IsWritten report.now (seen (W.taken out.old) (W.faults out.old)) (seen (W.taken out.new) (W.faults out.new))
+        (seen (L.taken log.old) (L.faults log.old)) (seen (L.taken log.new) (L.faults log.new)) result }
+{
+    if !write_all(out, report.out.as_bytes()) {
+        return WRITE_FAULT;
+    }
+    if !write_all(log, report.log.as_bytes()) {
+        return WRITE_FAULT;
+    }
+    report.status
+}
