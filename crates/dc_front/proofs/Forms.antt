@@ -6,7 +6,8 @@ use Rattle.std.proofs.lemmas.Bool.{and_parts, leb-true, false≢true, eqb-true, 
 use Rattle.std.proofs.lemmas.Bool.Decides.{eqb_tells}
 use Rattle.std.proofs.lemmas.Option.{cond_some, option_and_then_some, same_Some}
 use Rattle.std.proofs.Math.Seq.{drop-append_seam}
-use Rattle.dc_front.specs.FirstForm.{Form, Layout, is_form, is_size, is_letter, is_digit, begins_with_zero, joined, behind, feed, text_of, program_line, declaration_line, concurrent_line, assignment_line, end_do_line, print_line, end_program_line}
+use Rattle.dc_front.specs.FirstForm.{Form, Layout, is_form, is_size, is_letter, begins_with_zero, joined, behind, feed, text_of, program_line, declaration_line, concurrent_line, assignment_line, end_do_line, print_line, end_program_line}
+use Rattle.dc_front.specs.Value.{is_digit}
 use Rattle.dc_front.specs.Reading.{past_indent, past_blanks, after_line, span, is_no_feed, title_in, array_in, size_in, index_in, value_in, is_end, is_last_line, form_in, ◌>>=◌}
 use Rattle.dc_front.proofs.Steps.{IsVisible, past_indent-front, after_line-front, after_line-spelled, taken-front}
 
@@ -110,8 +111,8 @@ few_each : (a b c d e f g : ℕ) → a ≤ 100 → b ≤ 100 → c ≤ 100 → d
 few_each a b c d e f g ha hb hc hd he hf hg line =
     let P : ℕ → Type 0 = λ n. n ≤ 100 in
     cond_both (eqb line 1) a _ P (λ _. ha) (λ _. cond_both (eqb line 2) b _ P (λ _. hb) (λ _. cond_both (eqb line 3) c _ P (λ _. hc) (λ _.
-        cond_both (eqb line 4) d _ P (λ _. hd) (λ _. cond_both (eqb line 5) e _ P (λ _. he) (λ _. cond_both (eqb line 6) f _ P (λ _. hf) (λ _.
-            cond_both (eqb line 7) g 0 P (λ _. hg) (λ _. omega arith)))))))
+    cond_both (eqb line 4) d _ P (λ _. hd) (λ _. cond_both (eqb line 5) e _ P (λ _. he) (λ _. cond_both (eqb line 6) f _ P (λ _. hf) (λ _.
+    cond_both (eqb line 7) g 0 P (λ _. hg) (λ _. omega arith)))))))
 
 end_feed : (rest : List ℕ) → is_end rest ≡ true → (ended : Bool) × (rest ≡ cond ended feed [])
 end_feed [] end = (false, refl)
@@ -124,9 +125,9 @@ unfolding is_last_line
 last-spelled title text found =
     option_and_then_some (λ rest. Some (is_end rest)) (after_line (end_program_line title) text) true found
     (λ rest line end.
-        let blanks = after_line-spelled (end_program_line title) text rest line in
-        let feeds = end_feed rest (same_Some _ _ end) in
-        (blanks.0, feeds.0, blanks.1, blanks.2 ∙ ap (λ x. behind blanks.0 (end_program_line title) x) feeds.1))
+    let blanks = after_line-spelled (end_program_line title) text rest line in
+    let feeds = end_feed rest (same_Some _ _ end) in
+    (blanks.0, feeds.0, blanks.1, blanks.2 ∙ ap (λ x. behind blanks.0 (end_program_line title) x) feeds.1))
 
 -- What the reader does from each of its steps on.
 abbrev from_last : ℕ → ℕ → ℕ → List ℕ → List ℕ → Bool → Option Form
@@ -195,24 +196,24 @@ form-spelled text f found =
     option_and_then_some (from_sixth title array index size value) (after_line end_do_line fifth) f found (λ sixth line_five found.
     option_and_then_some (from_seventh title array index size value) (after_line (print_line array) sixth) f found (λ seventh line_six found.
     option_and_then_some (from_last title array index size value) (is_last_line title seventh) f found (λ last line_seven found.
-        let form : Form = record { title = title; array = array; index = index; size = size; value = value } in
-        let end = last-formed last form f found in
-        let b1 = after_line-spelled (program_line title) text second line_one in
-        let b2 = after_line-spelled (declaration_line array size index) second third line_two in
-        let b3 = after_line-spelled (concurrent_line index size) third fourth line_three in
-        let b4 = after_line-spelled (assignment_line array index value) fourth fifth line_four in
-        let b5 = after_line-spelled end_do_line fifth sixth line_five in
-        let b6 = after_line-spelled (print_line array) sixth seventh line_six in
-        let b7 = last-spelled title seventh (line_seven ∙ ap (λ (x : Bool). Some x) end.0) in
-        let layout : Layout = record {
-              blanks = blanks_of b1.0 b2.0 b3.0 b4.0 b5.0 b6.0 b7.0;
-              few = few_each b1.0 b2.0 b3.0 b4.0 b5.0 b6.0 b7.0 b1.1 b2.1 b3.1 b4.1 b5.1 b6.1 b7.2;
-              ended = b7.1;
-            } in
-        let e6 = b6.2 ∙ ap (λ x. behind b6.0 (print_line array) x) b7.3 in
-        let e5 = b5.2 ∙ ap (λ x. behind b5.0 end_do_line x) e6 in
-        let e4 = b4.2 ∙ ap (λ x. behind b4.0 (assignment_line array index value) x) e5 in
-        let e3 = b3.2 ∙ ap (λ x. behind b3.0 (concurrent_line index size) x) e4 in
-        let e2 = b2.2 ∙ ap (λ x. behind b2.0 (declaration_line array size index) x) e3 in
-        let e1 : text ≡ text_of layout form = b1.2 ∙ ap (λ x. behind b1.0 (program_line title) x) e2 in
-        record { layout = layout; text_is = e1 ∙ ap (text_of layout) end.2; formed = sym (ap is_form end.2) ∙ end.1 }))))))))))))
+    let form : Form = record { title = title; array = array; index = index; size = size; value = value } in
+    let end = last-formed last form f found in
+    let b1 = after_line-spelled (program_line title) text second line_one in
+    let b2 = after_line-spelled (declaration_line array size index) second third line_two in
+    let b3 = after_line-spelled (concurrent_line index size) third fourth line_three in
+    let b4 = after_line-spelled (assignment_line array index value) fourth fifth line_four in
+    let b5 = after_line-spelled end_do_line fifth sixth line_five in
+    let b6 = after_line-spelled (print_line array) sixth seventh line_six in
+    let b7 = last-spelled title seventh (line_seven ∙ ap (λ (x : Bool). Some x) end.0) in
+    let layout : Layout = record {
+      blanks = blanks_of b1.0 b2.0 b3.0 b4.0 b5.0 b6.0 b7.0;
+      few = few_each b1.0 b2.0 b3.0 b4.0 b5.0 b6.0 b7.0 b1.1 b2.1 b3.1 b4.1 b5.1 b6.1 b7.2;
+      ended = b7.1;
+    } in
+    let e6 = b6.2 ∙ ap (λ x. behind b6.0 (print_line array) x) b7.3 in
+    let e5 = b5.2 ∙ ap (λ x. behind b5.0 end_do_line x) e6 in
+    let e4 = b4.2 ∙ ap (λ x. behind b4.0 (assignment_line array index value) x) e5 in
+    let e3 = b3.2 ∙ ap (λ x. behind b3.0 (concurrent_line index size) x) e4 in
+    let e2 = b2.2 ∙ ap (λ x. behind b2.0 (declaration_line array size index) x) e3 in
+    let e1 : text ≡ text_of layout form = b1.2 ∙ ap (λ x. behind b1.0 (program_line title) x) e2 in
+    record { layout = layout; text_is = e1 ∙ ap (text_of layout) end.2; formed = sym (ap is_form end.2) ∙ end.1 }))))))))))))

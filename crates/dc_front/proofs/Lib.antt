@@ -1,3 +1,5 @@
 pub mod Accepting
 pub mod Forms
 pub mod Steps
+pub mod ValueComplete
+pub mod ValueSound

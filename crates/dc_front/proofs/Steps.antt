@@ -92,7 +92,7 @@ unfolding after_line
 after_line-spelled pieces text rest found =
     option_and_then_some (after_all pieces) (past_indent text) rest found
     (λ t indented others. let blanks = past_indent-spelled text t indented in
-        (blanks.0, blanks.1, blanks.2 ∙ ap (λ x. replicate blanks.0 32 ++ x) (after_all-spelled pieces t rest others)))
+    (blanks.0, blanks.1, blanks.2 ∙ ap (λ x. replicate blanks.0 32 ++ x) (after_all-spelled pieces t rest others)))
 
 -- the bytes that pass a test up to one that doesn't
 pub span-front : (test : ℕ → Bool) (words rest : List ℕ) (c : ℕ) → list_all test words ≡ true → test c ≡ false → span test (words ++ c ∷ rest) ≡ length words

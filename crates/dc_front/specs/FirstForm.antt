@@ -3,6 +3,8 @@
 use Rattle.std.specs.Prelude.{◌≡◌, ◌≤◌, ℕ, Bool, true, false, not, ◌&&◌, ◌==◌, nat_le, List, [], ◌∷◌, ◌++◌, length, codes, replicate, Option, Some, None, option_map, Result, Ok, Err, IsTrue, if◌then◌else◌}
 use Rattle.std.specs.List.{list_all}
 use Rattle.dc_tree.specs.declared.expr.Expr.{Expr, Number, Name}
+use Rattle.dc_tree.specs.Syntax.{tree}
+use Rattle.dc_front.specs.Value.{is_digit, SpellsTree}
 use Rattle.dc_tree.specs.declared.fail.Fail.{Fail}
 use Rattle.dc_tree.specs.declared.fail.Refusal.{Refusal}
 use Rattle.dc_tree.specs.declared.program.Block.{Block, roll-Block}
@@ -28,9 +30,6 @@ pub record Form : Type 0 where
 
 abbrev pub is_letter : ℕ → Bool
 is_letter c = nat_le 97 c && nat_le c 122
-
-abbrev pub is_digit : ℕ → Bool
-is_digit c = nat_le 48 c && nat_le c 57
 
 abbrev pub begins_with_zero : List ℕ → Bool
 begins_with_zero [] = false
@@ -92,9 +91,9 @@ text_of l f =
     (behind (l.blanks 4) (assignment_line f.array f.index f.value) (behind (l.blanks 5) end_do_line (behind (l.blanks 6) (print_line f.array)
     (behind (l.blanks 7) (end_program_line f.title) (if l.ended then feed else [])))))))
 
--- The bytes of a value: the index alone.
+-- The bytes spell an expression of the code.
 abbrev pub SpellsValue : ℕ → List ℕ → Expr → Type 0
-SpellsValue index bytes e = (bytes ≡ index ∷ []) × (e ≡ Name (index ∷ []))
+SpellsValue index bytes e = SpellsTree index bytes (tree e)
 
 -- What the reader finds of a value: the expression that the bytes spell, or none.
 abbrev pub FindsValue : ℕ → List ℕ → Option Expr → Type 0

@@ -1,6 +1,7 @@
 ghost use Rattle.std.specs.Prelude.{◌≡◌, option_map};
 ghost use Rattle.std.specs.List.{list_all};
-ghost use Rattle.dc_front.specs.FirstForm.{is_form, is_size, is_letter, is_digit, begins_with_zero};
+ghost use Rattle.dc_front.specs.FirstForm.{is_form, is_size, is_letter, begins_with_zero};
+ghost use Rattle.dc_front.specs.Value.{is_digit};
 ghost use Rattle.dc_front.specs.Picking.{form_of};
 ghost use Rattle.dc_front.specs.Reading.{form_in};
 

@@ -4,6 +4,7 @@
 
 mod form;
 mod lines;
+mod progress;
 mod reading;
 mod source;
 mod trees;

@@ -42,7 +42,9 @@ pub(crate) fn index(text: &[u8], size: &[u8]) -> Option<u8>
     ensures { result ≡ index_in text.now (length size.now) }
 {
     let rest = past_indent(text)?;
-    from(from(rest, SIZE_AT), size.len()).get(INDEX_AFTER).copied()
+    from(from(rest, SIZE_AT), size.len())
+        .get(INDEX_AFTER)
+        .copied()
 }
 
 pub(crate) fn value(text: &[u8]) -> Option<&[u8]>

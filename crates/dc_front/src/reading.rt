@@ -1,6 +1,6 @@
 ghost use Rattle.std.specs.Prelude.{◌≡◌, ◌+◌, ◌≤◌, length, take};
 ghost use Rattle.std.specs.Option.{option_copied};
-ghost use Rattle.dc_front.specs.FirstForm.{is_digit};
+ghost use Rattle.dc_front.specs.Value.{is_digit};
 ghost use Rattle.dc_front.specs.Reading.{after, past_blanks, past_indent, span, is_no_feed};
 
 const MOST_BLANKS: usize = 100;

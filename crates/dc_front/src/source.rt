@@ -16,7 +16,6 @@ pub struct Accepted {
 
 impl Model for Accepted {
     ghost use Rattle.dc_tree.specs.declared.program.Program.{Program};
-
     ghost use Rattle.dc_tree.specs.contracts.program.Program as tree;
 
     ghost Value = { Program };

@@ -8,7 +8,10 @@ ghost use Rattle.dc_front.specs.Picking.{form_of};
 
 use crate::form::Picked;
 use dc_text::{DcList, DcText, NoMemory};
-use dc_tree::{Action, Block, Bound, Entity, Expr, Index, Init, Lined, Node, Program, Stmt, Suffix, Target, TypeSpec, Unit};
+use dc_tree::{
+    Action, Block, Bound, Entity, Expr, Index, Init, Lined, Node, Program, Stmt, Suffix, Target,
+    TypeSpec, Unit,
+};
 use std::alloc::Global;
 
 fn one<T: Drop>(alloc: Global, item: T) -> Result<DcList<T>, NoMemory>

@@ -3,7 +3,7 @@ use Rattle.std.proofs.Common.{◌≡◌, ℕ, ◌<◌, ◌≤◌, ◌^◌, Bool,
 use Rattle.std.specs.List.{list_all}
 use Rattle.std.proofs.lemmas.Bool.{and_parts, leb-true}
 use Rattle.std.proofs.Math.Nat.{pow-le-pow_right}
-use Rattle.dc_front.specs.FirstForm.{is_digit}
+use Rattle.dc_front.specs.Value.{is_digit}
 use Rattle.docon.specs.Parts.{is_short}
 
 pub short-length : (digits : List ℕ) → is_short digits ≡ true → length digits ≤ 9

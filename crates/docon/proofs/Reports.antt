@@ -3,11 +3,12 @@ use Rattle.std.proofs.Common.{◌≡◌, ℕ, ◌≤◌, Bool, true, not, eqb, l
 use Rattle.std.specs.Prelude.{ℤ, pos, IfOk, IfSome}
 use Rattle.std.specs.List.{list_all}
 use Rattle.std.proofs.lemmas.Bool.{and_parts, leb-true, le-leb}
-use Rattle.dc_tree.specs.Syntax.{tree, items}
+use Rattle.dc_tree.specs.Syntax.{Tree, number, name, binary, tree, items}
 use Rattle.dc_tree.specs.declared.expr.Expr.{Expr}
 use Rattle.dc_tree.specs.declared.program.Program.{Program}
 use Rattle.dc_tree.proofs.Views.{tree-Name}
-use Rattle.dc_front.specs.FirstForm.{Form, Spells, SpellsValue, is_digit, is_form, is_size, begins_with_zero, program_of}
+use Rattle.dc_front.specs.FirstForm.{Form, Spells, SpellsValue, is_form, is_size, begins_with_zero, program_of}
+use Rattle.dc_front.specs.Value.{is_digit, is_literal, Writes}
 use Rattle.dc_front.proofs.Forms.{readable_form}
 use Rattle.docon.specs.Meaning.{number_of, iterations, line_of, value}
 use Rattle.docon.specs.Parts.{Parts, parts_in, is_short, has_short_numbers}
@@ -19,9 +20,19 @@ use Rattle.docon.specs.Writing.{Reported}
 use Rattle.docon.proofs.Orders.{numbers_of, every_order}
 use Rattle.docon.proofs.PartsLemmas.{parts-program_of}
 
+literal-short : (digits : List ℕ) → is_literal digits ≡ true → is_short digits ≡ true
+literal-short digits literal =
+    let sized = and_parts (leb 1 (length digits) && leb (length digits) 9) (list_all is_digit digits) literal in
+    rw ((and_parts (leb 1 (length digits)) (leb (length digits) 9) sized.0).1, sized.1) refl
+
+writes-short : (index : ℕ) (e : Tree) (text : List ℕ) → Writes index e text → has_short_numbers e ≡ true
+writes-short index (number digits suffix) text written = literal-short digits written.1
+writes-short index (name word) text written = refl
+writes-short index (binary mark l r) text written = rw (writes-short index l written.0 written.3, writes-short index r written.2 written.5) refl
+
 -- the numbers of a value of the form are short
-pub short-value : (index : ℕ) (bytes : List ℕ) (e : Expr) → SpellsValue index bytes e → has_short_numbers (tree e) ≡ true
-short-value index bytes e spelled = ap (λ (x : Expr). has_short_numbers (tree x)) spelled.1 ∙ ap has_short_numbers (tree-Name (index ∷ []))
+pub short-value : (index : ℕ) (text : List ℕ) (e : Expr) → SpellsValue index text e → has_short_numbers (tree e) ≡ true
+short-value index text e spelled = writes-short index (tree e) text spelled.written
 
 pub short-size : (size : List ℕ) → length size ≤ 4 → list_all is_digit size ≡ true → is_short size ≡ true
 short-size size few digits =

@@ -6,7 +6,7 @@ use Rattle.dc_tree.specs.Syntax.{Tree, Item, Items, number, name, binary, plain,
 use Rattle.dc_tree.specs.declared.program.Program.{Program}
 use Rattle.dc_tree.specs.declared.stmt.Action.{Action}
 use Rattle.dc_tree.specs.declared.stmt.Stmt.{Stmt}
-use Rattle.dc_front.specs.FirstForm.{is_digit}
+use Rattle.dc_front.specs.Value.{is_digit}
 
 pub record Parts : Type 0 where
   pub size : List ℕ

@@ -1,7 +1,7 @@
 program p
 integer :: a(4), i
 do concurrent (i = 1:4)
-  a(i) = i
+  a(i) = i*i
 end do
 print *, a
 end program p
