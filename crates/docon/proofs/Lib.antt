@@ -1,3 +1,5 @@
+pub mod Causes
+pub mod Examples
 pub mod Numbers
 pub mod Orders
 pub mod PartsLemmas

@@ -41,11 +41,11 @@ element-order e (i ∷ p) elements k inside within =
     one_more : (e : Tree) (i : ℕ) (p : List ℕ) (elements : Elements) (k : ℕ) → k < length elements → InRange (length elements) i
         → ((eqb i (k + 1) ≡ true) × (i ≡ k + 1)) ⊎ ((eqb i (k + 1) ≡ false) × (i ≢ k + 1))
         → cond (list_any (is_index k) p) (Some (value e (pos (k + 1)))) (get_or (after_iteration e i elements) k None)
-            ≡ cond (is_index k i || list_any (is_index k) p) (Some (value e (pos (k + 1)))) (get_or elements k None)
+        ≡ cond (is_index k i || list_any (is_index k) p) (Some (value e (pos (k + 1)))) (get_or elements k None)
     one_more e i p elements k inside within (inl own) =
         let place : i - 1 ≡ k = omega (arith, own.1) in
         let written : get_or (set elements (i - 1) (Some (value e (pos i)))) k None ≡ Some (value e (pos (k + 1))) =
-              rw (place, own.1) (get_or-set_same elements k (Some (value e (pos (k + 1)))) None inside) in
+        rw (place, own.1) (get_or-set_same elements k (Some (value e (pos (k + 1)))) None inside) in
         rw (own.0, written) (cond_same (list_any (is_index k) p) (Some (value e (pos (k + 1)))))
     one_more e i p elements k inside within (inr other) =
         let apart : k ≢ i - 1 = λ h. other.1 (omega (arith, h, within.0)) in
@@ -65,22 +65,22 @@ pub every_order : (size : ℕ) (e : Tree) → EndsWith size e (numbers_of size e
 every_order size e p permutation =
     let many : length (opening size) ≡ size = length-replicate size None in
     let within : All (InRange (length (opening size))) p =
-          All-permutation (InRange (length (opening size))) (iterations size) p permutation
-          (λ k d h. let bounds = range-within 1 size k d h in (bounds.0, omega (arith, bounds.1))) in
+    All-permutation (InRange (length (opening size))) (iterations size) p permutation
+    (λ k d h. let bounds = range-within 1 size k d h in (bounds.0, omega (arith, bounds.1))) in
     let count : length (numbers_of size e) ≡ size = length-map (iterations size) (λ i. value e (pos i)) ∙ length-range_with_len 1 size in
     ext_get_or None _ _
     (length-order e p (opening size) ∙ many ∙ sym (length-map (numbers_of size e) (λ z. Some z) ∙ count))
     (λ k h.
-        let inside : k < size = omega (arith, length-order e p (opening size)) in
-        let listed : list_any (is_index k) (iterations size) ≡ true =
-              list_any_at (is_index k) (iterations size) k 0 (omega (arith, length-range_with_len 1 size))
-              (eq-eqb _ _ (get_or-range_with_len 1 size k 0 inside ∙ (omega arith))) in
-        let moved = list_any-IsPermutation (is_index k) (iterations size) p permutation in
-        let left = element-order e p (opening size) k (omega arith) within in
-        let right : get_or (map (λ z. Some z) (numbers_of size e)) k None ≡ Some (value e (pos (k + 1))) =
-              get_or-map (λ z. Some z) (numbers_of size e) k (pos 0) None (omega (arith, count))
-              ∙ ap (λ (z : ℤ). Some z) (get_or-map-range_with_len (λ i. value e (pos i)) 1 size k (k + 1) (pos 0) inside (omega arith)) in
-        left ∙ ap (λ b. cond b (Some (value e (pos (k + 1)))) (get_or (opening size) k None)) (sym moved ∙ listed) ∙ sym right)
+    let inside : k < size = omega (arith, length-order e p (opening size)) in
+    let listed : list_any (is_index k) (iterations size) ≡ true =
+    list_any_at (is_index k) (iterations size) k 0 (omega (arith, length-range_with_len 1 size))
+    (eq-eqb _ _ (get_or-range_with_len 1 size k 0 inside ∙ (omega arith))) in
+    let moved = list_any-IsPermutation (is_index k) (iterations size) p permutation in
+    let left = element-order e p (opening size) k (omega arith) within in
+    let right : get_or (map (λ z. Some z) (numbers_of size e)) k None ≡ Some (value e (pos (k + 1))) =
+    get_or-map (λ z. Some z) (numbers_of size e) k (pos 0) None (omega (arith, count))
+    ∙ ap (λ (z : ℤ). Some z) (get_or-map-range_with_len (λ i. value e (pos i)) 1 size k (k + 1) (pos 0) inside (omega arith)) in
+    left ∙ ap (λ b. cond b (Some (value e (pos (k + 1)))) (get_or (opening size) k None)) (sym moved ∙ listed) ∙ sym right)
 
 -- the numbers of the first iterations, with the next one's behind them
 pub one_more_number : (e : Tree) (done : List ℤ) (z : ℤ) (i : ℕ) → 1 ≤ i → done ≡ map (λ k. value e (pos k)) (range_with_len 1 (i - 1)) → z ≡ value e (pos i)

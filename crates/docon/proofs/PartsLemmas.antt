@@ -28,7 +28,7 @@ only_in-many block nodes same count =
 
 -- the tree of a form has its size and its value
 pub parts-program_of : (f : Form) (e : Expr) → parts_in (items (program_of f e).body) ≡ Some (record { size = f.size; value = tree e })
-parts-program_of f e = 
+parts-program_of f e =
     let inner = items-Block (Plain (at_line 4 (assignment f e)) ∷ []) ∙ ap (λ i. and_then i none) (item-Plain (at_line 4 (assignment f e))) in
     let filling = item-Loop (at_line 3 (concurrent f)) (block (Plain (at_line 4 (assignment f e)) ∷ [])) (at_line 5 (Stmt.EndDo None)) ∙ ap (λ i. loop (at_line 3 (concurrent f)) i (at_line 5 (Stmt.EndDo None))) inner in
     let rest = items_from (map item (Plain (at_line 6 (print f)) ∷ [])) in

@@ -1,5 +1,5 @@
 -- From an accepted program to the report of its run.
-use Rattle.std.proofs.Common.{◌≡◌, ℕ, ◌≤◌, Bool, true, not, eqb, leb, ◌&&◌, List, [], ◌∷◌, length, map, take, Option, Some, Result, Ok, Err, refl, sym, ap, ◌∙◌, arith}
+use Rattle.std.proofs.Common.{◌≡◌, ℕ, ◌≤◌, Bool, true, not, eqb, leb, ◌&&◌, List, [], ◌∷◌, length, map, take, Option, Some, Result, Ok, Err, refl, sym, ap, subst, ◌∙◌, arith}
 use Rattle.std.specs.Prelude.{ℤ, pos, IfOk, IfSome}
 use Rattle.std.specs.List.{list_all}
 use Rattle.std.proofs.lemmas.Bool.{and_parts, leb-true, le-leb}
@@ -71,11 +71,12 @@ ran text program s line prints =
 
 -- the report of a file that was read
 pub reported : (words : List (List ℕ)) (told : List ℕ → Option (List ℕ)) (before now : ℕ) (file text : List ℕ) (answer : Result Report NoMemory) → file_of words ≡ Some file
-    → IfSome (told file) (λ held. text ≡ take read_limit held) → now ≡ before → IfOk answer (IsSourceReport text) → IfOk answer (Reported words told before now)
-reported words told before now file text (Ok report) named held steady sourced =
+    → (limit : ℕ) → limit ≡ read_limit → IfSome (told file) (λ held. text ≡ take limit held) → now ≡ before → IfOk answer (IsSourceReport text) → IfOk answer (Reported words told before now)
+reported words told before now file text (Ok report) named limit same held steady sourced =
+    let front = subst (λ (most : ℕ). IfSome (told file) (λ held. text ≡ take most held)) same held in
     record {
       outcome = contents text;
-      read = rw named (held, steady);
+      read = rw named (front, steady);
       is_report = rw named sourced;
     }
-reported words told before now file text (Err e) named held steady sourced = tt
+reported words told before now file text (Err e) named limit same held steady sourced = tt

@@ -34,7 +34,7 @@ file_of (command ∷ file ∷ []) = if names_file command file then Some file el
 file_of (command ∷ file ∷ more ∷ rest) = None
 
 -- the first bytes of a file that are read: one more than a source may have
-abbrev pub read_limit : ℕ
+unfoldable pub read_limit : ℕ
 read_limit = 1048577
 
 -- What the reading of the file came to.

@@ -10,6 +10,7 @@ use dc_tree::{Fail, Program, Refusal};
 use std::alloc::Global;
 
 const DONE: u8 = 0;
+
 const REFUSED: u8 = 1;
 
 /// The bytes for standard output and for standard error, and the status.

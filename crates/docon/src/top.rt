@@ -1,4 +1,6 @@
-ghost use Rattle.std.specs.Prelude.{◌≡◌, IfOk};
+ghost use Rattle.std.specs.Prelude.{◌≡◌, None, IfOk};
+ghost use Rattle.docon.specs.Causes.{reading, change, IsStatus, CausesOfDone, CausesOfRefused, CausesOfWords, CausesOfRead, CausesOfWrite, CausesOfMemory, IsComplete, NoWriteFails};
+ghost use Rattle.docon.specs.Report.{file_of as named_file};
 ghost use Rattle.docon.specs.Writing.{Reported, WritesReport, seen};
 
 use crate::command::file_of;
@@ -12,11 +14,14 @@ use std::alloc::Global;
 const MOST_SOURCE: usize = 1_048_576;
 
 const WORDS: u8 = 5;
+
 const READ_FAULT: u8 = 6;
+
 const NO_MEMORY: u8 = 8;
 
 fn report<F: Files>(alloc: Global, words: &[DcText], files: &mut F) -> Result<Report, NoMemory>
-    ensures { IfOk result (Reported words.now (F.told files.old) (F.faults files.old) (F.faults files.new)) }
+    ensures report { IfOk result (Reported words.now (F.told files.old) (F.faults files.old) (F.faults files.new)) }
+    ensures unread { named_file words.now ≡ None → files.new ≡ files.old }
 {
     let Some(file) = file_of(words) else {
         return only_log(alloc, b"words: command", WORDS);
@@ -44,6 +49,24 @@ pub fn docon<F: Files, S: Source, W: Sink, L: Sink, G: Gate + Sync>(
         (seen (W.taken out.old) (W.faults out.old)) (seen (W.taken out.new) (W.faults out.new))
         (seen (L.taken log.old) (L.faults log.old)) (seen (L.taken log.new) (L.faults log.new)) result }
     ensures input { input.new ≡ input.old }
+    ensures unread { named_file words.now ≡ None → files.new ≡ files.old }
+    ensures status { IsStatus result }
+    ensures done { CausesOfDone (reading words.now (F.told files.old) (F.faults files.old) (F.faults files.new))
+        (change (W.taken out.old) (W.faults out.old) (W.taken out.new) (W.faults out.new))
+        (change (L.taken log.old) (L.faults log.old) (L.taken log.new) (L.faults log.new)) result }
+    ensures refused { CausesOfRefused (reading words.now (F.told files.old) (F.faults files.old) (F.faults files.new)) result }
+    ensures words { CausesOfWords words.now result }
+    ensures read { CausesOfRead words.now (F.faults files.old) (F.faults files.new) result }
+    ensures write { CausesOfWrite (reading words.now (F.told files.old) (F.faults files.old) (F.faults files.new))
+        (change (W.taken out.old) (W.faults out.old) (W.taken out.new) (W.faults out.new))
+        (change (L.taken log.old) (L.faults log.old) (L.taken log.new) (L.faults log.new)) result }
+    ensures memory { CausesOfMemory (change (W.taken out.old) (W.faults out.old) (W.taken out.new) (W.faults out.new))
+        (change (L.taken log.old) (L.faults log.old) (L.taken log.new) (L.faults log.new)) result }
+    ensures complete { IsComplete (reading words.now (F.told files.old) (F.faults files.old) (F.faults files.new))
+        (change (W.taken out.old) (W.faults out.old) (W.taken out.new) (W.faults out.new))
+        (change (L.taken log.old) (L.faults log.old) (L.taken log.new) (L.faults log.new)) result }
+    ensures room { NoWriteFails (reading words.now (F.told files.old) (F.faults files.old) (F.faults files.new))
+        (W.room out.old) (L.room log.old) result }
 {
     match report(alloc, words, files) {
         Ok(report) => write_report(&report, out, log),

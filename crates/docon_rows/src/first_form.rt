@@ -1,7 +1,7 @@
 //! Sources of the first form, over files and sinks in memory.
-use dc_outer::{BytesIn, BytesOut, FilesInMemory, OpenGate};
+use dc_outer::{BytesIn, BytesInSure, BytesOut, BytesOutSure, FilesInMemory, FilesSure, OpenGate};
 use dc_text::{DcList, DcText, NoMemory};
-use docon::docon;
+use docon::{docon, run_sure};
 use std::alloc::Global;
 use std::test::Fail;
 
@@ -200,5 +200,38 @@ fn failing_writes(rt: HostRuntime) -> Result<(), Fail> {
     let answer = call(rt.alloc(), source.as_bytes(), &["run", "t.f90"], &no_log)?;
     assert_eq!(rt; answer.log.as_bytes(), b"read: file".as_slice());
     assert_eq!(rt; (answer.out.len(), answer.status), (0, 7));
+    Ok(())
+}
+
+#[test]
+fn sure_sinks(rt: HostRuntime) -> Result<(), Fail> {
+    let source = form(rt.alloc(), "4", "i*i")?;
+    let table: [(&str, &[u8], &[u8], u8); 2] = [
+        ("s.f90", b"1 4 9 16\n", b"", 0),
+        ("t.f90", b"", b"refused: line 1: K0\n", 1),
+    ];
+    for (name, wanted, logged, status) in table {
+        let mut pairs = DcList::new(rt.alloc());
+        pairs.push((
+            DcText::from_bytes(rt.alloc(), b"s.f90")?,
+            source.copy(rt.alloc())?,
+        ))?;
+        let mut files = FilesSure::new(pairs);
+        let mut input = BytesInSure::new(DcText::new(rt.alloc()), 64);
+        let mut out = BytesOutSure::new(rt.alloc(), 64, 3)?;
+        let mut log = BytesOutSure::new(rt.alloc(), 64, 3)?;
+        let command = words(rt.alloc(), &["run", name])?;
+        let answer = run_sure(
+            rt.alloc(),
+            command.as_slice(),
+            &mut files,
+            &mut input,
+            &mut out,
+            &mut log,
+        );
+        assert_eq!(rt; out.as_bytes(), wanted);
+        assert_eq!(rt; log.as_bytes(), logged);
+        assert_eq!(rt; answer, status);
+    }
     Ok(())
 }

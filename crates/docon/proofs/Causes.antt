@@ -1,0 +1,292 @@
+-- From the report that a call wrote to the cause of its answer.
+use Rattle.std.proofs.Common.{◌≡◌, ◌⊎◌, ℕ, ◌≤◌, true, false, List, length, [], ◌++◌, take, Option, Some, None, refl, sym, ap, ◌∙◌, subst, inl, inr, arith, append-nil}
+use Rattle.std.specs.Prelude.{MatchOption, IfSome, IsSome, option_map, codes}
+use Rattle.dc_outer.specs.Causes.{Rose}
+use Rattle.docon.specs.declared.report.Report.{Report}
+use Rattle.docon.specs.Report.{Outcome, contents, fault, file_of, read_limit, only_log, refusal_words, RunReport, RefusalReport, IsSourceReport, IsReportOf, IsReport, HasOutcome, IsReading}
+use Rattle.docon.specs.Room.{Fits}
+use Rattle.docon.specs.Writing.{Seen, seen, Took, FailedIn, Untouched, WroteAll, OutFailed, LogFailed, GaveUp, Reported, WritesReport, IsWritten}
+use Rattle.docon.specs.Causes.{Reading, Change, IsAccepted, IsRefused, Gave, Tells, IsStatus, IsUnlessFailed, Ran, CausesOfDone, CausesOfRefused, CausesOfWords, CausesOfRead, IsCutShort, CausesOfWrite, CausesOfMemory, NothingFailed, IsComplete, NoWriteFails}
+
+-- the call wrote its report or gave up
+abbrev pub Wrote : Reading → Change → Change → ℕ → Type 0
+Wrote asked out log answer = WritesReport asked.words asked.told asked.before asked.now out.before out.now log.before log.now answer
+
+-- no write failed
+pub record Steady (out log : Change) : Type 0 where
+  pub out_steady : out.now.faults ≡ out.before.faults
+  pub log_steady : log.now.faults ≡ log.before.faults
+
+-- What the report of a reading is.
+pub data Kind (asked : Reading) (report : Report) : Type 0 where
+  of_words : file_of asked.words ≡ None → report ≡ only_log (codes "words: command") 5 → Kind asked report
+  of_run : (text : List ℕ) → Gave asked text → RunReport text report → Kind asked report
+  of_refusal : (text : List ℕ) → Gave asked text → RefusalReport text report → Kind asked report
+  of_fault : IsSome (file_of asked.words) → Rose asked.before asked.now → report ≡ only_log (codes "read: file") 6 → Kind asked report
+
+kind_of_outcome : (asked : Reading) (report : Report) (file : List ℕ) → file_of asked.words ≡ Some file → (outcome : Outcome) → HasOutcome (asked.told file) asked.before asked.now outcome → IsReportOf outcome report
+    → Kind asked report
+kind_of_outcome asked report file named (contents text) gave is =
+    let read : Gave asked text = record { file = file; named = named; gave = gave } in
+    elim is [ inl run ↦ of_run text read run | inr refusal ↦ of_refusal text read refusal ]
+kind_of_outcome asked report file named fault rose is = of_fault (rw named refl) rose is
+
+kind_of_name : (asked : Reading) (report : Report) (word : Option (List ℕ)) → file_of asked.words ≡ word → (outcome : Outcome)
+    → MatchOption word (asked.now ≡ asked.before) (λ file. HasOutcome (asked.told file) asked.before asked.now outcome)
+    → MatchOption word (report ≡ only_log (codes "words: command") 5) (λ _. IsReportOf outcome report) → Kind asked report
+kind_of_name asked report None named outcome read is = of_words named is
+kind_of_name asked report (Some file) named outcome read is = kind_of_outcome asked report file named outcome read is
+
+pub kind_of : (asked : Reading) (report : Report) → Reported asked.words asked.told asked.before asked.now report → Kind asked report
+kind_of asked report reported = kind_of_name asked report (file_of asked.words) refl reported.outcome reported.read reported.is_report
+
+-- How a call ended, by its answer.
+pub data Ended (asked : Reading) (out log : Change) (answer : ℕ) : Type 0 where
+  with_done : Ran asked out log → Steady out log → answer ≡ 0 → Ended asked out log answer
+  with_refused : (text : List ℕ) → Gave asked text → IsRefused text → Steady out log → answer ≡ 1 → Ended asked out log answer
+  with_words : file_of asked.words ≡ None → Steady out log → answer ≡ 5 → Ended asked out log answer
+  with_read : IsSome (file_of asked.words) → Rose asked.before asked.now → Steady out log → answer ≡ 6 → Ended asked out log answer
+  with_write : (report : Report) → Reported asked.words asked.told asked.before asked.now report → IsCutShort report out log → answer ≡ 7 → Ended asked out log answer
+  with_memory : Untouched out.before out.now → Untouched log.before log.now → answer ≡ 8 → Ended asked out log answer
+
+held_same : (held : Option (List ℕ)) → option_map (λ bytes. bytes ++ []) held ≡ held
+held_same None = refl
+held_same (Some bytes) = ap (λ (x : List ℕ). Some x) (append-nil bytes)
+
+seen_same : (a b : Seen) → a.taken ≡ b.taken → a.faults ≡ b.faults → a ≡ b
+seen_same a b taken faults = ap (λ (x : Option (List ℕ)). seen x a.faults) taken ∙ ap (λ (n : ℕ). seen b.taken n) faults
+
+-- a sink that took no bytes is untouched
+pub untouched : (before now : Seen) → Took before now [] → Untouched before now
+untouched before now took =
+    seen_same now before (took.taken ∙ held_same before.taken) took.steady
+
+steady_of : (report : Report) (out log : Change) (answer : ℕ) → WroteAll report out.before out.now log.before log.now answer → Steady out log
+steady_of report out log answer all = record { out_steady = all.out_all.steady; log_steady = all.log_all.steady }
+
+ended_whole : (asked : Reading) (out log : Change) (answer : ℕ) (report : Report) → Kind asked report → WroteAll report out.before out.now log.before log.now answer → Ended asked out log answer
+ended_whole asked out log answer report (of_words nameless is) all =
+    with_words nameless (steady_of report out log answer all) (all.status_is ∙ ap (λ (x : Report). x.status) is)
+ended_whole asked out log answer report (of_run text read run) all =
+    let nothing : Took log.before log.now [] = subst (λ (x : Report). Took log.before log.now x.log) run.is all.log_all in
+    let ran : Ran asked out log = record {
+      text = text;
+      read = read;
+      report = report;
+      run = run;
+      out_all = all.out_all;
+      log_none = untouched log.before log.now nothing;
+    } in
+    with_done ran (steady_of report out log answer all) (all.status_is ∙ ap (λ (x : Report). x.status) run.is)
+ended_whole asked out log answer report (of_refusal text read refusal) all =
+    with_refused text read (λ accepted. refusal.refused accepted.0 accepted.1) (steady_of report out log answer all) (all.status_is ∙ ap (λ (x : Report). x.status) refusal.is)
+ended_whole asked out log answer report (of_fault named rose is) all =
+    with_read named rose (steady_of report out log answer all) (all.status_is ∙ ap (λ (x : Report). x.status) is)
+
+ended_written : (asked : Reading) (out log : Change) (answer : ℕ) (report : Report) → Reported asked.words asked.told asked.before asked.now report
+    → IsWritten report out.before out.now log.before log.now answer → Ended asked out log answer
+ended_written asked out log answer report reported (inl all) = ended_whole asked out log answer report (kind_of asked report reported) all
+ended_written asked out log answer report reported (inr (inl failed)) = with_write report reported (inl (failed.out_part, failed.log_none)) failed.status_is
+ended_written asked out log answer report reported (inr (inr failed)) = with_write report reported (inr (failed.out_all, failed.log_part)) failed.status_is
+
+pub ended : (asked : Reading) (out log : Change) (answer : ℕ) → Wrote asked out log answer → Ended asked out log answer
+ended asked out log answer (inl gave_up) = with_memory gave_up.out_none gave_up.log_none gave_up.status_is
+ended asked out log answer (inr wrote) = ended_written asked out log answer wrote.0 wrote.1 wrote.2
+
+status_of_ended : (asked : Reading) (out log : Change) (answer : ℕ) → Ended asked out log answer → IsStatus answer
+status_of_ended asked out log answer (with_done ran steady is) = inl is
+status_of_ended asked out log answer (with_refused text read refused steady is) = inr (inl is)
+status_of_ended asked out log answer (with_words nameless steady is) = inr (inr (inl is))
+status_of_ended asked out log answer (with_read named rose steady is) = inr (inr (inr (inl is)))
+status_of_ended asked out log answer (with_write report reported cut is) = inr (inr (inr (inr (inl is))))
+status_of_ended asked out log answer (with_memory out_none log_none is) = inr (inr (inr (inr (inr is))))
+
+-- what was given is what was told
+same_text : (limit : ℕ) (held : Option (List ℕ)) (given text : List ℕ) → IfSome held (λ whole. given ≡ take limit whole) → option_map (take limit) held ≡ Some text → given ≡ text
+same_text limit None given text gave tells = absurd (let no : None ≡ Some text = tells in cc)
+same_text limit (Some whole) given text gave tells = gave ∙ (let same : Some (take limit whole) ≡ Some text = tells in cc)
+
+given_is_told : (asked : Reading) (given text : List ℕ) → Gave asked given → Tells asked text → given ≡ text
+given_is_told asked given text gave tells =
+    let named : Some gave.file ≡ Some tells.file = sym gave.named ∙ tells.named in
+    let file : gave.file ≡ tells.file = cc in
+    let told : option_map (take read_limit) (asked.told gave.file) ≡ Some text = subst (λ (x : List ℕ). option_map (take read_limit) (asked.told x) ≡ Some text) (sym file) tells.tells in
+    same_text read_limit (asked.told gave.file) given text gave.gave.0 told
+
+not_none : (word : Option (List ℕ)) (file : List ℕ) → word ≡ None → word ≡ Some file → ⊥
+not_none word file nameless some = let no : None ≡ Some file = sym nameless ∙ some in cc
+
+pub only_done : (asked : Reading) (out log : Change) (answer : ℕ) → Ended asked out log answer → answer ≡ 0 → Ran asked out log
+only_done asked out log answer (with_done ran steady is) zeroed = ran
+only_done asked out log answer (with_refused text read refused steady is) zeroed = absurd (omega arith)
+only_done asked out log answer (with_words nameless steady is) zeroed = absurd (omega arith)
+only_done asked out log answer (with_read named rose steady is) zeroed = absurd (omega arith)
+only_done asked out log answer (with_write report reported cut is) zeroed = absurd (omega arith)
+only_done asked out log answer (with_memory out_none log_none is) zeroed = absurd (omega arith)
+
+wherever_accepted : (asked : Reading) (out log : Change) (answer : ℕ) → Ended asked out log answer → (text : List ℕ) → Tells asked text → IsAccepted text → IsUnlessFailed 0 answer
+wherever_accepted asked out log answer (with_done ran steady is) text tells accepted = inl is
+wherever_accepted asked out log answer (with_refused given read refused steady is) text tells accepted =
+    absurd (refused (subst IsAccepted (sym (given_is_told asked given text read tells)) accepted))
+wherever_accepted asked out log answer (with_words nameless steady is) text tells accepted = absurd (not_none (file_of asked.words) tells.file nameless tells.named)
+wherever_accepted asked out log answer (with_read named rose steady is) text tells accepted = absurd (tells.no_fault rose)
+wherever_accepted asked out log answer (with_write report reported cut is) text tells accepted = inr (inl is)
+wherever_accepted asked out log answer (with_memory out_none log_none is) text tells accepted = inr (inr is)
+
+pub causes_done : (asked : Reading) (out log : Change) (answer : ℕ) → Wrote asked out log answer → CausesOfDone asked out log answer
+causes_done asked out log answer wrote =
+    let end = ended asked out log answer wrote in
+    record { only = only_done asked out log answer end; wherever = wherever_accepted asked out log answer end }
+
+only_refused : (asked : Reading) (out log : Change) (answer : ℕ) → Ended asked out log answer → answer ≡ 1 → (text : List ℕ) × Gave asked text × IsRefused text
+only_refused asked out log answer (with_done ran steady is) one = absurd (omega arith)
+only_refused asked out log answer (with_refused text read refused steady is) one = (text, read, refused)
+only_refused asked out log answer (with_words nameless steady is) one = absurd (omega arith)
+only_refused asked out log answer (with_read named rose steady is) one = absurd (omega arith)
+only_refused asked out log answer (with_write report reported cut is) one = absurd (omega arith)
+only_refused asked out log answer (with_memory out_none log_none is) one = absurd (omega arith)
+
+wherever_refused : (asked : Reading) (out log : Change) (answer : ℕ) → Ended asked out log answer → (text : List ℕ) → Tells asked text → IsRefused text → IsUnlessFailed 1 answer
+wherever_refused asked out log answer (with_done ran steady is) text tells refused =
+    absurd (refused (subst IsAccepted (given_is_told asked ran.text text ran.read tells) (ran.run.program, ran.run.spelled)))
+wherever_refused asked out log answer (with_refused given read others steady is) text tells refused = inl is
+wherever_refused asked out log answer (with_words nameless steady is) text tells refused = absurd (not_none (file_of asked.words) tells.file nameless tells.named)
+wherever_refused asked out log answer (with_read named rose steady is) text tells refused = absurd (tells.no_fault rose)
+wherever_refused asked out log answer (with_write report reported cut is) text tells refused = inr (inl is)
+wherever_refused asked out log answer (with_memory out_none log_none is) text tells refused = inr (inr is)
+
+pub causes_refused : (asked : Reading) (out log : Change) (answer : ℕ) → Wrote asked out log answer → CausesOfRefused asked answer
+causes_refused asked out log answer wrote =
+    let end = ended asked out log answer wrote in
+    record { only = only_refused asked out log answer end; wherever = wherever_refused asked out log answer end }
+
+only_words : (asked : Reading) (out log : Change) (answer : ℕ) → Ended asked out log answer → answer ≡ 5 → file_of asked.words ≡ None
+only_words asked out log answer (with_done ran steady is) five = absurd (omega arith)
+only_words asked out log answer (with_refused text read refused steady is) five = absurd (omega arith)
+only_words asked out log answer (with_words nameless steady is) five = nameless
+only_words asked out log answer (with_read named rose steady is) five = absurd (omega arith)
+only_words asked out log answer (with_write report reported cut is) five = absurd (omega arith)
+only_words asked out log answer (with_memory out_none log_none is) five = absurd (omega arith)
+
+-- a word that is there is not absent
+not_some : (word : Option (List ℕ)) → word ≡ None → IsSome word → ⊥
+not_some None nameless some = let no : false ≡ true = some in cc
+not_some (Some file) nameless some = let no : Some file ≡ None = nameless in cc
+
+wherever_words : (asked : Reading) (out log : Change) (answer : ℕ) → Ended asked out log answer → file_of asked.words ≡ None → IsUnlessFailed 5 answer
+wherever_words asked out log answer (with_done ran steady is) nameless = absurd (not_none (file_of asked.words) ran.read.file nameless ran.read.named)
+wherever_words asked out log answer (with_refused text read refused steady is) nameless = absurd (not_none (file_of asked.words) read.file nameless read.named)
+wherever_words asked out log answer (with_words same steady is) nameless = inl is
+wherever_words asked out log answer (with_read named rose steady is) nameless = absurd (not_some (file_of asked.words) nameless named)
+wherever_words asked out log answer (with_write report reported cut is) nameless = inr (inl is)
+wherever_words asked out log answer (with_memory out_none log_none is) nameless = inr (inr is)
+
+pub causes_words : (asked : Reading) (out log : Change) (answer : ℕ) → Wrote asked out log answer → CausesOfWords asked.words answer
+causes_words asked out log answer wrote =
+    let end = ended asked out log answer wrote in
+    record { only = only_words asked out log answer end; wherever = wherever_words asked out log answer end }
+
+only_read : (asked : Reading) (out log : Change) (answer : ℕ) → Ended asked out log answer → answer ≡ 6 → IsSome (file_of asked.words) × Rose asked.before asked.now
+only_read asked out log answer (with_done ran steady is) six = absurd (omega arith)
+only_read asked out log answer (with_refused text read refused steady is) six = absurd (omega arith)
+only_read asked out log answer (with_words nameless steady is) six = absurd (omega arith)
+only_read asked out log answer (with_read named rose steady is) six = (named, rose)
+only_read asked out log answer (with_write report reported cut is) six = absurd (omega arith)
+only_read asked out log answer (with_memory out_none log_none is) six = absurd (omega arith)
+
+wherever_read : (asked : Reading) (out log : Change) (answer : ℕ) → Ended asked out log answer → (file_of asked.words ≡ None → asked.now ≡ asked.before) → ¬ (asked.now ≡ asked.before) → IsUnlessFailed 6 answer
+wherever_read asked out log answer (with_done ran steady is) unread moved = absurd (moved ran.read.gave.1)
+wherever_read asked out log answer (with_refused text read refused steady is) unread moved = absurd (moved read.gave.1)
+wherever_read asked out log answer (with_words nameless steady is) unread moved = absurd (moved (unread nameless))
+wherever_read asked out log answer (with_read named rose steady is) unread moved = inl is
+wherever_read asked out log answer (with_write report reported cut is) unread moved = inr (inl is)
+wherever_read asked out log answer (with_memory out_none log_none is) unread moved = inr (inr is)
+
+pub causes_read : (asked : Reading) (out log : Change) (answer : ℕ) → Wrote asked out log answer → (file_of asked.words ≡ None → asked.now ≡ asked.before) → CausesOfRead asked.words asked.before asked.now answer
+causes_read asked out log answer wrote unread =
+    let end = ended asked out log answer wrote in
+    record { only = only_read asked out log answer end; wherever = wherever_read asked out log answer end unread }
+
+only_write : (asked : Reading) (out log : Change) (answer : ℕ) → Ended asked out log answer → answer ≡ 7
+    → (report : Report) × Reported asked.words asked.told asked.before asked.now report × IsCutShort report out log
+only_write asked out log answer (with_done ran steady is) seven = absurd (omega arith)
+only_write asked out log answer (with_refused text read refused steady is) seven = absurd (omega arith)
+only_write asked out log answer (with_words nameless steady is) seven = absurd (omega arith)
+only_write asked out log answer (with_read named rose steady is) seven = absurd (omega arith)
+only_write asked out log answer (with_write report reported cut is) seven = (report, reported, cut)
+only_write asked out log answer (with_memory out_none log_none is) seven = absurd (omega arith)
+
+wherever_write : (asked : Reading) (out log : Change) (answer : ℕ) → Ended asked out log answer → ¬ (Steady out log) → answer ≡ 7
+wherever_write asked out log answer (with_done ran steady is) moved = absurd (moved steady)
+wherever_write asked out log answer (with_refused text read refused steady is) moved = absurd (moved steady)
+wherever_write asked out log answer (with_words nameless steady is) moved = absurd (moved steady)
+wherever_write asked out log answer (with_read named rose steady is) moved = absurd (moved steady)
+wherever_write asked out log answer (with_write report reported cut is) moved = is
+wherever_write asked out log answer (with_memory out_none log_none is) moved =
+    absurd (moved (record { out_steady = ap (λ (x : Seen). x.faults) out_none; log_steady = ap (λ (x : Seen). x.faults) log_none }))
+
+pub causes_write : (asked : Reading) (out log : Change) (answer : ℕ) → Wrote asked out log answer → CausesOfWrite asked out log answer
+causes_write asked out log answer wrote =
+    let end = ended asked out log answer wrote in
+    record {
+      only = only_write asked out log answer end;
+      wherever_out = λ moved. wherever_write asked out log answer end (λ steady. moved steady.out_steady);
+      wherever_log = λ moved. wherever_write asked out log answer end (λ steady. moved steady.log_steady);
+    }
+
+only_memory : (asked : Reading) (out log : Change) (answer : ℕ) → Ended asked out log answer → CausesOfMemory out log answer
+only_memory asked out log answer (with_done ran steady is) = λ eight. absurd (omega arith)
+only_memory asked out log answer (with_refused text read refused steady is) = λ eight. absurd (omega arith)
+only_memory asked out log answer (with_words nameless steady is) = λ eight. absurd (omega arith)
+only_memory asked out log answer (with_read named rose steady is) = λ eight. absurd (omega arith)
+only_memory asked out log answer (with_write report reported cut is) = λ eight. absurd (omega arith)
+only_memory asked out log answer (with_memory out_none log_none is) = λ eight. (out_none, log_none)
+
+pub causes_memory : (asked : Reading) (out log : Change) (answer : ℕ) → Wrote asked out log answer → CausesOfMemory out log answer
+causes_memory asked out log answer wrote = only_memory asked out log answer (ended asked out log answer wrote)
+
+pub is_status : (asked : Reading) (out log : Change) (answer : ℕ) → Wrote asked out log answer → IsStatus answer
+is_status asked out log answer wrote = status_of_ended asked out log answer (ended asked out log answer wrote)
+
+-- the report of the outcome is that of the told source
+told_outcome : (report : Report) (held : Option (List ℕ)) (before now : ℕ) (text : List ℕ) → ¬ (Rose before now) → option_map (take read_limit) held ≡ Some text
+    → (outcome : Outcome) → HasOutcome held before now outcome → IsReportOf outcome report → IsReportOf (contents text) report
+told_outcome report held before now text no_fault tells (contents given) gave is =
+    subst (λ (x : List ℕ). IsSourceReport x report) (same_text read_limit held given text gave.0 tells) is
+told_outcome report held before now text no_fault tells fault rose is = absurd (no_fault rose)
+
+told_report : (asked : Reading) (report : Report) (text : List ℕ) → ¬ (Rose asked.before asked.now) → (word : Option (List ℕ))
+    → IfSome word (λ file. option_map (take read_limit) (asked.told file) ≡ Some text) → (outcome : Outcome)
+    → MatchOption word (asked.now ≡ asked.before) (λ file. HasOutcome (asked.told file) asked.before asked.now outcome)
+    → MatchOption word (report ≡ only_log (codes "words: command") 5) (λ _. IsReportOf outcome report)
+    → MatchOption word (report ≡ only_log (codes "words: command") 5) (λ _. IsReportOf (contents text) report)
+told_report asked report text no_fault None tells outcome read is = is
+told_report asked report text no_fault (Some file) tells outcome read is = told_outcome report (asked.told file) asked.before asked.now text no_fault tells outcome read is
+
+complete_written : (asked : Reading) (out log : Change) (answer : ℕ) (report : Report) (text : List ℕ) → IsReport asked.words (contents text) report
+    → IsWritten report out.before out.now log.before log.now answer → NothingFailed asked out log text → WroteAll report out.before out.now log.before log.now answer
+complete_written asked out log answer report text is (inl all) quiet = all
+complete_written asked out log answer report text is (inr (inl failed)) quiet = absurd (quiet.out_no_fault failed.out_part.rose)
+complete_written asked out log answer report text is (inr (inr failed)) quiet = absurd (quiet.log_no_fault failed.log_part.rose)
+
+pub complete : (asked : Reading) (out log : Change) (answer : ℕ) → Wrote asked out log answer → IsComplete asked out log answer
+complete asked out log answer (inl gave_up) = λ text quiet. inl gave_up
+complete asked out log answer (inr wrote) =
+    λ text quiet.
+    let is = told_report asked wrote.0 text quiet.files_no_fault (file_of asked.words) quiet.tells wrote.1.outcome wrote.1.read wrote.1.is_report in
+    inr (wrote.0, is, complete_written asked out log answer wrote.0 text is wrote.2 quiet)
+
+-- no report has the status of a failed write
+not_seven_kind : (asked : Reading) (report : Report) → Kind asked report → ¬ (report.status ≡ 7)
+not_seven_kind asked report (of_words nameless is) = λ seven. absurd (let same : report.status ≡ 5 = ap (λ (x : Report). x.status) is in omega arith)
+not_seven_kind asked report (of_run text read run) = λ seven. absurd (let same : report.status ≡ 0 = ap (λ (x : Report). x.status) run.is in omega arith)
+not_seven_kind asked report (of_refusal text read refusal) = λ seven. absurd (let same : report.status ≡ 1 = ap (λ (x : Report). x.status) refusal.is in omega arith)
+not_seven_kind asked report (of_fault named rose is) = λ seven. absurd (let same : report.status ≡ 6 = ap (λ (x : Report). x.status) is in omega arith)
+
+pub not_seven : (asked : Reading) (report : Report) → Reported asked.words asked.told asked.before asked.now report → ¬ (report.status ≡ 7)
+not_seven asked report reported = not_seven_kind asked report (kind_of asked report reported)
+
+pub no_write_fails : (asked : Reading) (out_room log_room : Option ℕ) (answer : ℕ) (report : Report) → Reported asked.words asked.told asked.before asked.now report
+    → (Fits report out_room log_room → answer ≡ report.status) → NoWriteFails asked out_room log_room answer
+no_write_fails asked out_room log_room answer report reported answered =
+    λ fits seven. not_seven asked report reported (sym (answered (fits report reported)) ∙ seven)
