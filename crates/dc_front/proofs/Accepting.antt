@@ -1,5 +1,5 @@
 -- From the form that the reader finds to what `accept` answers.
-use Rattle.std.proofs.Common.{◌≡◌, ℕ, ◌≤◌, Bool, true, false, not, eqb, leb, ◌&&◌, inl, inr, List, [], ◌∷◌, ◌++◌, length, Option, Some, None, refl, sym, ap, subst, ◌∙◌, arith}
+use Rattle.std.proofs.Common.{◌≡◌, ℕ, ◌≤◌, Bool, true, false, leb, ◌&&◌, inl, inr, List, [], ◌∷◌, ◌++◌, length, Option, Some, None, refl, sym, ap, subst, ◌∙◌, arith}
 use Rattle.std.specs.List.{list_all}
 use Rattle.std.proofs.lemmas.Bool.{and_parts, leb-true}
 use Rattle.std.proofs.lemmas.Bool.Decides.{eqb_tells}
@@ -11,7 +11,7 @@ use Rattle.dc_text.specs.declared.memory.NoMemory.{NoMemory}
 use Rattle.std.proofs.lemmas.List.Folds.{list_all-append}
 use Rattle.dc_tree.specs.Syntax.{Tree, number, name, binary, tree}
 use Rattle.dc_tree.specs.declared.token.Mark.{Mark}
-use Rattle.dc_front.specs.FirstForm.{Form, is_letter, is_form, text_of, program_of, SpellsValue, FindsValue, Spells}
+use Rattle.dc_front.specs.FirstForm.{Form, is_letter, program_of, SpellsValue, FindsValue, Spells}
 use Rattle.dc_front.specs.Value.{is_digit, blank, Joins, Writes}
 use Rattle.dc_front.specs.ValueReading.{tree_in}
 use Rattle.dc_front.proofs.ValueComplete.{operator-byte, tree-found}
@@ -41,7 +41,7 @@ blank-unbroken false = refl
 joint-unbroken : (mark : Mark) (joint : List ℕ) → Joins mark joint → list_all is_no_feed joint ≡ true
 joint-unbroken mark joint j =
     let own : list_all is_no_feed (j.byte ∷ []) ≡ true =
-          elim (operator-byte j.byte mark j.writes) [ inl e ↦ rw e refl | inr (inl e) ↦ rw e refl | inr (inr e) ↦ rw e refl ] in
+    elim (operator-byte j.byte mark j.writes) [ inl e ↦ rw e refl | inr (inl e) ↦ rw e refl | inr (inr e) ↦ rw e refl ] in
     ap (list_all is_no_feed) j.is ∙ both-unbroken (blank j.before) (j.byte ∷ blank j.after) (blank-unbroken j.before) (both-unbroken (j.byte ∷ []) (blank j.after) own (blank-unbroken j.after))
 
 writes-unbroken : (index : ℕ) (e : Tree) (bytes : List ℕ) → is_letter index ≡ true → Writes index e bytes → list_all is_no_feed bytes ≡ true

@@ -1,6 +1,6 @@
 -- The reader finds the form that a text was spelled from, and a form that it finds spells the text.
-use Rattle.std.proofs.Common.{◌≡◌, ℕ, zero, suc, ◌+◌, ◌<◌, ◌≤◌, Bool, true, false, not, cond, eqb, leb, inl, inr, List, [], ◌∷◌, ◌++◌, length, take, drop, replicate, Option, Some, None, refl, sym, ap, ◌∙◌, arith, append_assoc}
-use Rattle.std.specs.Prelude.{option_and_then, slice_get, ◌&&◌}
+use Rattle.std.proofs.Common.{◌≡◌, ℕ, ◌≤◌, Bool, true, false, not, cond, eqb, leb, inl, inr, List, [], ◌∷◌, ◌++◌, length, Option, Some, None, refl, sym, ap, ◌∙◌, arith, append_assoc}
+use Rattle.std.specs.Prelude.{◌&&◌}
 use Rattle.std.specs.List.{list_all}
 use Rattle.std.proofs.lemmas.Bool.{and_parts, leb-true, false≢true, eqb-true, cond_both}
 use Rattle.std.proofs.lemmas.Bool.Decides.{eqb_tells}
@@ -8,7 +8,7 @@ use Rattle.std.proofs.lemmas.Option.{cond_some, option_and_then_some, same_Some}
 use Rattle.std.proofs.Math.Seq.{drop-append_seam}
 use Rattle.dc_front.specs.FirstForm.{Form, Layout, is_form, is_size, is_letter, begins_with_zero, joined, behind, feed, text_of, program_line, declaration_line, concurrent_line, assignment_line, end_do_line, print_line, end_program_line}
 use Rattle.dc_front.specs.Value.{is_digit}
-use Rattle.dc_front.specs.Reading.{past_indent, past_blanks, after_line, span, is_no_feed, title_in, array_in, size_in, index_in, value_in, is_end, is_last_line, form_in, ◌>>=◌}
+use Rattle.dc_front.specs.Reading.{after_line, is_no_feed, title_in, array_in, size_in, index_in, value_in, is_end, is_last_line, form_in, ◌>>=◌}
 use Rattle.dc_front.proofs.Steps.{IsVisible, past_indent-front, after_line-front, after_line-spelled, taken-front}
 
 -- what the readings need of a form

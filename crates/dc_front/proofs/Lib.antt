@@ -1,4 +1,5 @@
 pub mod Accepting
+pub mod Examples
 pub mod Forms
 pub mod Steps
 pub mod ValueComplete

@@ -1,12 +1,11 @@
 -- The reader of values finds each tree that the bytes spell.
-use Rattle.std.proofs.Common.{◌≡◌, ◌≢◌, ◌⊎◌, ℕ, zero, suc, ◌+◌, ◌<◌, ◌≤◌, Bool, true, false, cond, not, eqb, ltb, leb, ◌&&◌, List, [], ◌∷◌, ◌++◌, length, Option, Some, None, refl, sym, ap, subst, ◌∙◌, arith, inl, inr, append_assoc, append-nil, length-append}
+use Rattle.std.proofs.Common.{◌≡◌, ◌⊎◌, ℕ, suc, ◌+◌, ◌<◌, ◌≤◌, Bool, true, false, cond, eqb, leb, ◌&&◌, List, [], ◌∷◌, ◌++◌, length, Option, Some, None, refl, sym, ap, subst, ◌∙◌, arith, inl, inr, append_assoc, append-nil, length-append}
 use Rattle.std.specs.List.{list_all}
-use Rattle.std.proofs.lemmas.Bool.{and_parts, leb-true, le-leb, eqb-true, eq-eqb, cases_Bool, false≢true}
+use Rattle.std.proofs.lemmas.Bool.{and_parts, leb-true, le-leb, eqb-true, eq-eqb, false≢true}
 use Rattle.std.proofs.Math.Bool.{and-false}
 use Rattle.std.proofs.lemmas.Bool.Decides.{eqb_tells, leb_tells}
 use Rattle.std.proofs.lemmas.Option.{none-some, same_Some}
 use Rattle.dc_tree.specs.declared.token.Mark.{Mark}
-use Rattle.dc_tree.specs.declared.token.Suffix.{Suffix}
 use Rattle.dc_tree.specs.Syntax.{Tree, number, name, binary}
 use Rattle.dc_tree.specs.Grammar.{rank, level, left_rank, right_rank, Ranked}
 use Rattle.dc_front.specs.FirstForm.{is_letter}
@@ -44,7 +43,7 @@ operator-byte byte mark is = by_tests (eqb byte 43) refl (eqb byte 45) refl (eqb
 pub operator-apart : (byte : ℕ) (mark : Mark) → operator byte ≡ Some mark → (eqb byte 32 ≡ false) × (is_digit byte ≡ false)
 operator-apart byte mark is =
     elim (operator-byte byte mark is) [
-        inl plus_byte ↦ rw plus_byte (refl, refl)
+      | inl plus_byte ↦ rw plus_byte (refl, refl)
       | inr (inl minus_byte) ↦ rw minus_byte (refl, refl)
       | inr (inr times_byte) ↦ rw times_byte (refl, refl)
     ]
@@ -176,9 +175,10 @@ joined-read : (index : ℕ) (first joint second : List ℕ) (fresh : Bool) (left
     → After sum term count (run index first (wants fresh left)) → Joins mark joint
     → (again : Bool) × (run index (first ++ (joint ++ second)) (wants fresh left) ≡ run index second (wants again (left_after mark sum term count)))
 joined-read index first joint second fresh left mark sum term count after joins =
-    let behind = joint-read index (run index first (wants fresh left)) sum term count after mark joint joins in
-    (behind.0,
-        run-append index first (joint ++ second) (wants fresh left) ∙ run-append index joint second (run index first (wants fresh left)) ∙ ap (run index second) behind.1)
+    let behind = joint-read index (run index first (wants fresh left)) sum term count after mark joint joins in (
+      behind.0,
+      run-append index first (joint ++ second) (wants fresh left) ∙ run-append index joint second (run index first (wants fresh left)) ∙ ap (run index second) behind.1,
+    )
 
 some_operand : (e : Tree) → 1 ≤ operands e
 some_operand (number digits suffix) = omega arith
@@ -217,7 +217,7 @@ term-read index (binary mark l r) bytes fresh sum count letter high ranked writt
     let behind : Left = record { sum = sum; product = Some l; count = count + operands l } in
     let second = leaf-read index r written.2 joined.0 behind letter leaf.0 written.5 (omega arith) in
     let place : run index bytes (wants fresh start_left) ≡ run index written.2 (wants joined.0 behind) =
-          ap (λ b. run index b (wants fresh start_left)) written.6 ∙ joined.1 ∙ ap (λ m. run index written.2 (wants joined.0 (left_after m sum l (count + operands l)))) is in
+    ap (λ b. run index b (wants fresh start_left)) written.6 ∙ joined.1 ∙ ap (λ m. run index written.2 (wants joined.0 (left_after m sum l (count + operands l)))) is in
     let number : (count + operands l) + 1 ≡ count + (operands l + operands r) = omega arith in
     let here = subst (After sum (binary Mark.Times l r) ((count + operands l) + 1)) (sym place) second in
     let counted = subst (λ (n : ℕ). After sum (binary Mark.Times l r) n (run index bytes (wants fresh start_left))) number here in
@@ -245,14 +245,14 @@ sum-read index (name text) bytes fresh count letter ranked written room =
 sum-read index (binary mark l r) bytes fresh count letter ranked written room =
     let nothing : Left = record { sum = None; product = None; count = count } in
     elim (sums-or-times mark (operator-join written.4.byte mark written.4.writes)) [
-        inl adds ↦
+      | inl adds ↦
           let first = sum-read index l written.0 fresh count letter ranked.3 written.3 (omega arith) in
           let joined = joined-read index written.0 written.1 written.2 fresh nothing mark first.sum first.term (count + operands l) first.after written.4 in
           let sum : Option (Tree × Mark) = Some (plus first.sum first.term, mark) in
           let behind : Left = record { sum = sum; product = None; count = count + operands l } in
           let second = term-read index r written.2 joined.0 sum (count + operands l) letter (omega (arith, ranked.2, adds.1)) ranked.4 written.5 (omega arith) in
           let place : run index bytes (wants fresh nothing) ≡ run index written.2 (wants joined.0 behind) =
-                ap (λ b. run index b (wants fresh nothing)) written.6 ∙ joined.1 ∙ ap (λ (left : Left). run index written.2 (wants joined.0 left)) (adds.2 first.sum first.term (count + operands l)) in
+          ap (λ b. run index b (wants fresh nothing)) written.6 ∙ joined.1 ∙ ap (λ (left : Left). run index written.2 (wants joined.0 left)) (adds.2 first.sum first.term (count + operands l)) in
           let number : (count + operands l) + operands r ≡ count + (operands l + operands r) = omega arith in
           let here = subst (After sum r ((count + operands l) + operands r)) (sym place) second in
           record {
@@ -262,11 +262,11 @@ sum-read index (binary mark l r) bytes fresh count letter ranked written room =
             whole = ap (λ t. binary mark t r) first.whole;
           }
       | inr multiplies ↦ record {
-            sum = None;
-            term = binary mark l r;
-            after = term-read index (binary mark l r) bytes fresh None count letter (omega (arith, multiplies)) ranked written room;
-            whole = refl;
-          }
+        sum = None;
+        term = binary mark l r;
+        after = term-read index (binary mark l r) bytes fresh None count letter (omega (arith, multiplies)) ranked written room;
+        whole = refl;
+      }
     ]
 
 finish-behind : (e : Tree) (count : ℕ) (p : Progress) → Behind e count p → finish p ≡ Some e

@@ -1,16 +1,15 @@
 -- What the reader of values has read spells what it holds.
-use Rattle.std.proofs.Common.{◌≡◌, ◌⊎◌, ℕ, zero, suc, ◌+◌, ◌<◌, ◌≤◌, Bool, true, false, cond, not, eqb, leb, ◌&&◌, List, [], ◌∷◌, ◌++◌, length, Option, Some, None, refl, sym, ap, subst, ◌∙◌, arith, inl, inr, append_assoc, append-nil, length-append}
+use Rattle.std.proofs.Common.{◌≡◌, ◌⊎◌, ℕ, suc, ◌+◌, ◌<◌, ◌≤◌, Bool, true, false, cond, eqb, leb, ◌&&◌, List, [], ◌∷◌, ◌++◌, length, Option, Some, None, refl, sym, ap, subst, ◌∙◌, arith, inl, inr, append_assoc, append-nil, length-append}
 use Rattle.std.specs.List.{list_all}
 use Rattle.std.proofs.lemmas.Bool.{and_parts, leb-true, le-leb, eqb-true, false≢true}
 use Rattle.std.proofs.lemmas.List.Folds.{list_all-append}
-use Rattle.std.proofs.lemmas.Option.{none-some, same_Some, cond_some}
+use Rattle.std.proofs.lemmas.Option.{none-some, same_Some}
 use Rattle.dc_tree.specs.declared.token.Mark.{Mark}
-use Rattle.dc_tree.specs.declared.token.Suffix.{Suffix}
-use Rattle.dc_tree.specs.Syntax.{Tree, number, name, binary}
+use Rattle.dc_tree.specs.Syntax.{Tree, name}
 use Rattle.dc_tree.specs.Grammar.{is_binary, rank, level, left_rank, right_rank, Ranked}
 use Rattle.dc_front.specs.Value.{is_digit, is_literal, operator, blank, Joins, Writes, operands, SpellsTree}
 use Rattle.dc_front.specs.ValueReading.{Left, Progress, wants, in_digits, has, failed, times, plus, with_operand, with_operator, one_more, of_number, step_operand, step_has, step_digits, step, run, finish, start, tree_in}
-use Rattle.dc_front.proofs.ValueComplete.{IsJoin, operator-join, left_after}
+use Rattle.dc_front.proofs.ValueComplete.{IsJoin, operator-join}
 
 -- bytes that write a tree of at least this rank
 pub record Good (index least : ℕ) (e : Tree) (bytes : List ℕ) : Type 0 where
@@ -89,11 +88,14 @@ pub times-good : (index : ℕ) (sum : Option (Tree × Mark)) (product : Option T
 times-good index sum None e before own lefts good =
     (before, own, lefts, record { ranked = good.ranked; high = omega (arith, good.high); written = good.written }, refl, omega arith)
 times-good index sum (Some product) e before own lefts good =
-    let w = lefts.waits in
-    (lefts.outer, w.first ++ (w.joint ++ own), lefts.sums,
-        record { ranked = (refl, w.good.high, omega (arith, good.high), w.good.ranked, good.ranked); high = omega arith; written = (w.first, w.joint, own, w.good.written, w.joins, good.written, refl) },
-        ap (λ b. b ++ own) (lefts.is ∙ ap (λ b. lefts.outer ++ b) w.is) ∙ append_assoc lefts.outer (w.first ++ w.joint) own ∙ ap (λ b. lefts.outer ++ b) (append_assoc w.first w.joint own),
-        refl)
+    let w = lefts.waits in (
+      lefts.outer,
+      w.first ++ (w.joint ++ own),
+      lefts.sums,
+      record { ranked = (refl, w.good.high, omega (arith, good.high), w.good.ranked, good.ranked); high = omega arith; written = (w.first, w.joint, own, w.good.written, w.joins, good.written, refl) },
+      ap (λ b. b ++ own) (lefts.is ∙ ap (λ b. lefts.outer ++ b) w.is) ∙ append_assoc lefts.outer (w.first ++ w.joint) own ∙ ap (λ b. lefts.outer ++ b) (append_assoc w.first w.joint own),
+      refl,
+    )
 
 -- the ranks at `+` and `-`
 sum-ranks : (mark : Mark) → IsSum mark → (is_binary mark ≡ true) × (left_rank mark ≡ 5) × (right_rank mark ≡ 6) × (level mark ≡ 5)
@@ -107,12 +109,14 @@ plus-good index None e before own lefts good =
     (record { ranked = good.ranked; high = omega (arith, good.high); written = subst (Writes index e) (ap (λ b. b ++ own) (sym lefts)) good.written }, omega arith)
 plus-good index (Some sum) e before own lefts good =
     let w = lefts.0 in
-    let ranks = sum-ranks sum.1 lefts.1 in
-    (record {
+    let ranks = sum-ranks sum.1 lefts.1 in (
+      record {
         ranked = (ranks.0, omega (arith, ranks.1, w.good.high), omega (arith, ranks.2, good.high), w.good.ranked, good.ranked);
         high = omega (arith, ranks.3);
         written = (w.first, w.joint, own, w.good.written, w.joins, good.written, ap (λ b. b ++ own) w.is ∙ append_assoc w.first w.joint own);
-      }, refl)
+      },
+      refl,
+    )
 
 -- an operator byte behind a term, with a blank before it or not, and with one behind it or not
 joint_of : (mark : Mark) (before after : Bool) (byte : ℕ) → operator byte ≡ Some mark → Joins mark (blank before ++ byte ∷ blank after)
@@ -125,14 +129,16 @@ to-operator before own spaced bytes more is =
 
 sum-waits : (index : ℕ) (spaced after : Bool) (sum : Option (Tree × Mark)) (term : Tree) (count byte : ℕ) (mark : Mark) (bytes : List ℕ) → IsSum mark → operator byte ≡ Some mark → HasSound index spaced sum term count bytes
     → SumLeft index (Some (plus sum term, mark)) (bytes ++ byte ∷ blank after)
-sum-waits index spaced after sum term count byte mark bytes sums writes s =
-    (record {
-        first = s.before ++ s.own;
-        joint = blank spaced ++ byte ∷ blank after;
-        good = (plus-good index sum term s.before s.own s.sums s.good).0;
-        joins = joint_of mark spaced after byte writes;
-        is = to-operator s.before s.own spaced bytes (byte ∷ blank after) s.is ∙ sym (append_assoc s.before s.own (blank spaced ++ byte ∷ blank after));
-      }, sums)
+sum-waits index spaced after sum term count byte mark bytes sums writes s = (
+  record {
+    first = s.before ++ s.own;
+    joint = blank spaced ++ byte ∷ blank after;
+    good = (plus-good index sum term s.before s.own s.sums s.good).0;
+    joins = joint_of mark spaced after byte writes;
+    is = to-operator s.before s.own spaced bytes (byte ∷ blank after) s.is ∙ sym (append_assoc s.before s.own (blank spaced ++ byte ∷ blank after));
+  },
+  sums,
+)
 
 product-waits : (index : ℕ) (spaced after : Bool) (sum : Option (Tree × Mark)) (term : Tree) (count byte : ℕ) (bytes : List ℕ) → operator byte ≡ Some Mark.Times → HasSound index spaced sum term count bytes
     → ProductLeft index sum term (bytes ++ byte ∷ blank after)
@@ -155,32 +161,32 @@ operator-sound index spaced sum term count byte bytes s mark (inl is) writes =
     let sums : IsSum mark = inl is in
     let counted = (plus-good index sum term s.before s.own s.sums s.good).1 in
     let fresh : WantsSound index true (record { sum = Some (plus sum term, mark); product = None; count = count }) (bytes ++ byte ∷ []) = record {
-          here = sum-waits index spaced false sum term count byte mark bytes sums writes s;
-          spaced = λ _. subst (SumLeft index (Some (plus sum term, mark))) (sym (one_blank bytes byte)) (sum-waits index spaced true sum term count byte mark bytes sums writes s);
-          count = omega (arith, s.count_is, counted);
-          few = s.few;
-        } in
+      here = sum-waits index spaced false sum term count byte mark bytes sums writes s;
+      spaced = λ _. subst (SumLeft index (Some (plus sum term, mark))) (sym (one_blank bytes byte)) (sum-waits index spaced true sum term count byte mark bytes sums writes s);
+      count = omega (arith, s.count_is, counted);
+      few = s.few;
+    } in
     let same : wants true (record { sum = Some (plus sum term, mark); product = None; count = count }) ≡ with_operator sum term count (Some mark) = rw is refl in
     subst (λ (p : Progress). Sound index (bytes ++ byte ∷ []) p) same fresh
 operator-sound index spaced sum term count byte bytes s mark (inr (inl is)) writes =
     let sums : IsSum mark = inr is in
     let counted = (plus-good index sum term s.before s.own s.sums s.good).1 in
     let fresh : WantsSound index true (record { sum = Some (plus sum term, mark); product = None; count = count }) (bytes ++ byte ∷ []) = record {
-          here = sum-waits index spaced false sum term count byte mark bytes sums writes s;
-          spaced = λ _. subst (SumLeft index (Some (plus sum term, mark))) (sym (one_blank bytes byte)) (sum-waits index spaced true sum term count byte mark bytes sums writes s);
-          count = omega (arith, s.count_is, counted);
-          few = s.few;
-        } in
+      here = sum-waits index spaced false sum term count byte mark bytes sums writes s;
+      spaced = λ _. subst (SumLeft index (Some (plus sum term, mark))) (sym (one_blank bytes byte)) (sum-waits index spaced true sum term count byte mark bytes sums writes s);
+      count = omega (arith, s.count_is, counted);
+      few = s.few;
+    } in
     let same : wants true (record { sum = Some (plus sum term, mark); product = None; count = count }) ≡ with_operator sum term count (Some mark) = rw is refl in
     subst (λ (p : Progress). Sound index (bytes ++ byte ∷ []) p) same fresh
 operator-sound index spaced sum term count byte bytes s mark (inr (inr is)) writes =
     let writes_times : operator byte ≡ Some Mark.Times = writes ∙ ap (λ (m : Mark). Some m) is in
     let fresh : WantsSound index true (record { sum = sum; product = Some term; count = count }) (bytes ++ byte ∷ []) = record {
-          here = product-waits index spaced false sum term count byte bytes writes_times s;
-          spaced = λ _. subst (ProductLeft index sum term) (sym (one_blank bytes byte)) (product-waits index spaced true sum term count byte bytes writes_times s);
-          count = s.count_is;
-          few = s.few;
-        } in
+      here = product-waits index spaced false sum term count byte bytes writes_times s;
+      spaced = λ _. subst (ProductLeft index sum term) (sym (one_blank bytes byte)) (product-waits index spaced true sum term count byte bytes writes_times s);
+      count = s.count_is;
+      few = s.few;
+    } in
     let same : wants true (record { sum = sum; product = Some term; count = count }) ≡ with_operator sum term count (Some mark) = rw is refl in
     subst (λ (p : Progress). Sound index (bytes ++ byte ∷ []) p) same fresh
 
@@ -192,6 +198,7 @@ has-step index spaced sum term count byte bytes s = by_blank spaced s (eqb byte 
     by_operator : (spaced : Bool) → HasSound index spaced sum term count bytes → (o : Option Mark) → operator byte ≡ o → Sound index (bytes ++ byte ∷ []) (with_operator sum term count o)
     by_operator spaced s None e = tt
     by_operator spaced s (Some mark) e = operator-sound index spaced sum term count byte bytes s mark (operator-join byte mark e) e
+
     by_blank : (spaced : Bool) → HasSound index spaced sum term count bytes → (b : Bool) → eqb byte 32 ≡ b
         → Sound index (bytes ++ byte ∷ []) (cond b (cond spaced failed (has true sum term count)) (with_operator sum term count (operator byte)))
     by_blank true s true e = tt

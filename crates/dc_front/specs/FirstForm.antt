@@ -6,7 +6,6 @@ use Rattle.dc_tree.specs.declared.expr.Expr.{Expr, Number, Name}
 use Rattle.dc_tree.specs.Syntax.{tree}
 use Rattle.dc_front.specs.Value.{is_digit, SpellsTree}
 use Rattle.dc_tree.specs.declared.fail.Fail.{Fail}
-use Rattle.dc_tree.specs.declared.fail.Refusal.{Refusal}
 use Rattle.dc_tree.specs.declared.program.Block.{Block, roll-Block}
 use Rattle.dc_tree.specs.declared.program.Node.{Node, Plain, Loop}
 use Rattle.dc_tree.specs.declared.program.Lined.{Lined}

@@ -1,5 +1,5 @@
 -- The reader's state, as it is seen.
-use Rattle.std.specs.Prelude.{Option, option_map}
+use Rattle.std.specs.Prelude.{option_map}
 use Rattle.dc_tree.specs.Syntax.{tree}
 use Rattle.dc_front.specs.ValueReading as reading
 use Rattle.dc_front.specs.declared.progress.Left.{Left}

@@ -1,7 +1,7 @@
 -- How the form is read, a step at a time: the functions of the reader, as equations.
 -- What they amount to is said by the laws in `proofs/`, and by the clauses of `accept`.
-use Rattle.std.specs.Prelude.{◌≡◌, ◌+◌, ◌-◌, ℕ, suc, Bool, true, false, not, ◌&&◌, ◌==◌, nat_le, List, [], ◌∷◌, ◌++◌, length, take, drop, slice_get, Option, Some, None, option_and_then, if◌then◌else◌}
-use Rattle.dc_front.specs.FirstForm.{Form, is_form, feed, program_line, declaration_line, concurrent_line, assignment_line, end_do_line, print_line, end_program_line}
+use Rattle.std.specs.Prelude.{◌-◌, ℕ, suc, Bool, true, false, not, ◌&&◌, ◌==◌, nat_le, List, [], ◌∷◌, length, take, drop, slice_get, Option, Some, None, option_and_then, if◌then◌else◌}
+use Rattle.dc_front.specs.FirstForm.{Form, is_form, program_line, declaration_line, concurrent_line, assignment_line, end_do_line, print_line, end_program_line}
 use Rattle.dc_front.specs.Value.{is_digit}
 
 infixl 10 ◌>>=◌

@@ -1,5 +1,5 @@
 -- How a value is read, a byte at a time: the functions of the reader, as equations.
-use Rattle.std.specs.Prelude.{◌≡◌, ◌+◌, ℕ, Bool, true, false, ◌&&◌, ◌==◌, nat_lt, List, [], ◌∷◌, ◌++◌, length, Option, Some, None, if◌then◌else◌}
+use Rattle.std.specs.Prelude.{◌+◌, ℕ, Bool, true, false, ◌&&◌, ◌==◌, nat_lt, List, [], ◌∷◌, ◌++◌, length, Option, Some, None, if◌then◌else◌}
 use Rattle.dc_tree.specs.declared.token.Mark.{Mark}
 use Rattle.dc_tree.specs.declared.token.Suffix.{Suffix}
 use Rattle.dc_tree.specs.Syntax.{Tree, number, name, binary}

@@ -1,11 +1,11 @@
 -- The equations of the views, at each form of the code's trees.
-use Rattle.std.proofs.Common.{◌≡◌, ℕ, List, [], ◌∷◌, map, refl, sym, ap, ◌∙◌}
+use Rattle.std.proofs.Common.{◌≡◌, ℕ, List, map, sym, ap, ◌∙◌}
 use Rattle.dc_tree.specs.declared.token.Mark.{Mark}
 use Rattle.dc_tree.specs.declared.token.Suffix.{Suffix}
 use Rattle.dc_tree.specs.declared.expr.Expr.{Expr, Expr-F, fold-roll-Expr, Number, Name, Binary}
 use Rattle.dc_tree.specs.declared.expr.Expr.TheVariants as variants
 use Rattle.dc_tree.specs.declared.program.Lined.{Lined}
-use Rattle.dc_tree.specs.declared.program.Block.{Block, Block-F, roll-Block, fold-roll-Block}
+use Rattle.dc_tree.specs.declared.program.Block.{Block, roll-Block, fold-roll-Block}
 use Rattle.dc_tree.specs.declared.program.Node.{Node, Node-F, fold-roll-Node, Plain, Loop}
 use Rattle.dc_tree.specs.declared.program.Node.TheVariants as nodes
 use Rattle.dc_tree.specs.Syntax.{Tree, number, name, binary, tree, tree_step, Item, Items, plain, loop, items_from, item, items, item_step, items_step}

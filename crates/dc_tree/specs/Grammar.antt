@@ -1,7 +1,7 @@
 -- The ranks of the expression grammar, from the weakest operator to the strongest: `.eqv.` and
 -- `.neqv.`, `.or.`, `.and.`, `.not.`, the relations, `+` and `-`, `*` and `/`, `**`, and primaries.
 -- After ISO/IEC 1539-1:2023, clause 10.1.2.
-use Rattle.std.specs.Prelude.{◌≡◌, ◌≤◌, ℕ, Bool, true, false, IsTrue}
+use Rattle.std.specs.Prelude.{◌≤◌, ℕ, Bool, true, false, IsTrue}
 use Rattle.dc_tree.specs.declared.token.Mark.{Mark}
 use Rattle.dc_tree.specs.Syntax.{Tree, number, name, binary}
 

@@ -4,7 +4,10 @@ use dc_text::{DcBox, DcText};
 /// An expression, of ISO/IEC 1539-1:2023 clause 10.1.
 #[derive(Debug, Drop)]
 pub enum Expr {
-    Number { digits: DcText, suffix: Suffix },
+    Number {
+        digits: DcText,
+        suffix: Suffix,
+    },
     Name(DcText),
     Binary {
         mark: Mark,

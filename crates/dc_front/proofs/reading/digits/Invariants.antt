@@ -1,6 +1,6 @@
 use Rattle.std.proofs.Common.{◌≡◌, ◌+◌, drop}
 use Rattle.dc_front.specs.Value.{is_digit}
-use Rattle.dc_front.specs.Reading.{span, is_no_feed}
+use Rattle.dc_front.specs.Reading.{span}
 use Rattle.dc_front.proofs.reading.digits.Given as goal
 
 abbrev pub invariant-loop-byte : goal.invariant-loop-byte

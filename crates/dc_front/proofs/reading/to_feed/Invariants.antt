@@ -1,5 +1,4 @@
 use Rattle.std.proofs.Common.{◌≡◌, ◌+◌, drop}
-use Rattle.dc_front.specs.Value.{is_digit}
 use Rattle.dc_front.specs.Reading.{span, is_no_feed}
 use Rattle.dc_front.proofs.reading.to_feed.Given as goal
 

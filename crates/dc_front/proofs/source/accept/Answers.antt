@@ -9,8 +9,11 @@ pub returns-in_default : goal.returns-in_default
 returns-in_default c = (refl, no_form _ (sym c.form.ensures ∙ ap (option_map form_of) c.in_default.is))
 
 pub returns-in_default-2 : goal.returns-in_default-2
-returns-in_default-2 c = (refl, no_value _ _ (sym c.form.ensures ∙ ap (option_map form_of) c.in-Some.is)
-    (subst (FindsValue c.in-Some.form.index c.in-Some.form.value.now) c.in_default-2.is c.in_ok-value.ensures))
+returns-in_default-2 c = (
+  refl,
+  no_value _ _ (sym c.form.ensures ∙ ap (option_map form_of) c.in-Some.is)
+      (subst (FindsValue c.in-Some.form.index c.in-Some.form.value.now) c.in_default-2.is c.in_ok-value.ensures),
+)
 
 pub returns : goal.returns
 returns c = spelling _ _ _ _ (sym c.form.ensures ∙ ap (option_map form_of) c.in-Some.is)
