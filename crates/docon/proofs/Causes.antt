@@ -1,11 +1,11 @@
 -- From the report that a call wrote to the cause of its answer.
-use Rattle.std.proofs.Common.{◌≡◌, ◌⊎◌, ℕ, ◌≤◌, true, false, List, length, [], ◌++◌, take, Option, Some, None, refl, sym, ap, ◌∙◌, subst, inl, inr, arith, append-nil}
+use Rattle.std.proofs.Common.{◌≡◌, ℕ, true, false, List, [], ◌++◌, take, Option, Some, None, refl, sym, ap, ◌∙◌, subst, inl, inr, arith, append-nil}
 use Rattle.std.specs.Prelude.{MatchOption, IfSome, IsSome, option_map, codes}
 use Rattle.dc_outer.specs.Causes.{Rose}
 use Rattle.docon.specs.declared.report.Report.{Report}
-use Rattle.docon.specs.Report.{Outcome, contents, fault, file_of, read_limit, only_log, refusal_words, RunReport, RefusalReport, IsSourceReport, IsReportOf, IsReport, HasOutcome, IsReading}
+use Rattle.docon.specs.Report.{Outcome, contents, fault, file_of, read_limit, only_log, RunReport, RefusalReport, IsSourceReport, IsReportOf, IsReport, HasOutcome}
 use Rattle.docon.specs.Room.{Fits}
-use Rattle.docon.specs.Writing.{Seen, seen, Took, FailedIn, Untouched, WroteAll, OutFailed, LogFailed, GaveUp, Reported, WritesReport, IsWritten}
+use Rattle.docon.specs.Writing.{Seen, seen, Took, Untouched, WroteAll, Reported, WritesReport, IsWritten}
 use Rattle.docon.specs.Causes.{Reading, Change, IsAccepted, IsRefused, Gave, Tells, IsStatus, IsUnlessFailed, Ran, CausesOfDone, CausesOfRefused, CausesOfWords, CausesOfRead, IsCutShort, CausesOfWrite, CausesOfMemory, NothingFailed, IsComplete, NoWriteFails}
 
 -- the call wrote its report or gave up

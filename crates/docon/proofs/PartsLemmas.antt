@@ -1,6 +1,6 @@
 -- What the runner finds in the tree of a form, and in other blocks.
-use Rattle.std.proofs.Common.{◌≡◌, ◌⊎◌, ◌<◌, ◌≤◌, ℕ, List, [], ◌∷◌, length, map, Option, Some, None, refl, sym, ap, ◌∙◌, inl, inr, arith, rules}
-use Rattle.dc_tree.specs.Syntax.{Tree, Item, Items, plain, loop, none, and_then, tree, item, items, items_from, item_step, items_step}
+use Rattle.std.proofs.Common.{◌≡◌, ◌⊎◌, ◌<◌, List, [], ◌∷◌, length, map, Some, None, refl, sym, ap, ◌∙◌, inl, inr, arith}
+use Rattle.dc_tree.specs.Syntax.{Item, Items, plain, loop, none, and_then, tree, item, items, items_from, item_step, items_step}
 use Rattle.dc_tree.specs.declared.expr.Expr.{Expr}
 use Rattle.dc_tree.specs.declared.program.Block.{Block, out-Block, fold_out-Block}
 use Rattle.dc_tree.specs.declared.program.Node.{Node, Plain}
@@ -9,7 +9,7 @@ use Rattle.dc_tree.specs.declared.token.Suffix.{Suffix}
 use Rattle.std.specs.Prelude.{option_and_then}
 use Rattle.dc_tree.proofs.Views.{tree-Number, items-Block, item-Plain, item-Loop}
 use Rattle.dc_front.specs.FirstForm.{Form, program_of, filling_loop, block, at_line, assignment, concurrent, print}
-use Rattle.docon.specs.Parts.{Parts, digits_in, only_in, parts_in}
+use Rattle.docon.specs.Parts.{digits_in, only_in, parts_in}
 
 two_in : (first second : Item) (rest : Items) → only_in (and_then first (and_then second rest)) ≡ None
 two_in (plain lined) second rest = refl

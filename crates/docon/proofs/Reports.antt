@@ -1,16 +1,15 @@
 -- From an accepted program to the report of its run.
-use Rattle.std.proofs.Common.{◌≡◌, ℕ, ◌≤◌, Bool, true, not, eqb, leb, ◌&&◌, List, [], ◌∷◌, length, map, take, Option, Some, Result, Ok, Err, refl, sym, ap, subst, ◌∙◌, arith}
-use Rattle.std.specs.Prelude.{ℤ, pos, IfOk, IfSome}
+use Rattle.std.proofs.Common.{◌≡◌, ℕ, ◌≤◌, true, leb, ◌&&◌, List, [], length, take, Option, Some, Result, Ok, Err, refl, ap, subst, ◌∙◌, arith}
+use Rattle.std.specs.Prelude.{IfOk, IfSome}
 use Rattle.std.specs.List.{list_all}
-use Rattle.std.proofs.lemmas.Bool.{and_parts, leb-true, le-leb}
+use Rattle.std.proofs.lemmas.Bool.{and_parts, le-leb}
 use Rattle.dc_tree.specs.Syntax.{Tree, number, name, binary, tree, items}
 use Rattle.dc_tree.specs.declared.expr.Expr.{Expr}
 use Rattle.dc_tree.specs.declared.program.Program.{Program}
-use Rattle.dc_tree.proofs.Views.{tree-Name}
-use Rattle.dc_front.specs.FirstForm.{Form, Spells, SpellsValue, is_form, is_size, begins_with_zero, program_of}
+use Rattle.dc_front.specs.FirstForm.{Spells, SpellsValue}
 use Rattle.dc_front.specs.Value.{is_digit, is_literal, Writes}
 use Rattle.dc_front.proofs.Forms.{readable_form}
-use Rattle.docon.specs.Meaning.{number_of, iterations, line_of, value}
+use Rattle.docon.specs.Meaning.{number_of}
 use Rattle.docon.specs.Parts.{Parts, parts_in, is_short, has_short_numbers}
 use Rattle.dc_text.specs.declared.memory.NoMemory.{NoMemory}
 use Rattle.docon.specs.declared.report.Report.{Report}

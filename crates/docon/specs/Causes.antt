@@ -1,5 +1,5 @@
 -- Where each answer of the top call comes, and what then stands. This project's own.
-use Rattle.std.specs.Prelude.{◌≡◌, ℕ, List, [], length, take, Option, Some, None, option_map, IsSome, IfSome, ◌⊎◌}
+use Rattle.std.specs.Prelude.{◌≡◌, ℕ, List, take, Option, Some, None, option_map, IsSome, IfSome, ◌⊎◌}
 use Rattle.dc_tree.specs.declared.program.Program.{Program}
 use Rattle.dc_front.specs.FirstForm.{Spells}
 use Rattle.dc_outer.specs.Causes.{Rose}

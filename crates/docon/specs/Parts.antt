@@ -1,9 +1,8 @@
 -- What the runner takes from a program: the digits of the loop's last limit, and the value that
 -- the loop's one statement assigns.
-use Rattle.std.specs.Prelude.{◌≡◌, ◌≤◌, ℕ, Bool, true, false, ◌&&◌, nat_le, List, [], ◌∷◌, length, Option, Some, None, option_and_then, option_map}
+use Rattle.std.specs.Prelude.{ℕ, Bool, true, ◌&&◌, nat_le, List, [], ◌∷◌, length, Option, Some, None, option_and_then, option_map}
 use Rattle.std.specs.List.{list_all}
-use Rattle.dc_tree.specs.Syntax.{Tree, Item, Items, number, name, binary, plain, loop, none, and_then, tree, items}
-use Rattle.dc_tree.specs.declared.program.Program.{Program}
+use Rattle.dc_tree.specs.Syntax.{Tree, Items, number, name, binary, plain, loop, none, and_then, tree}
 use Rattle.dc_tree.specs.declared.stmt.Action.{Action}
 use Rattle.dc_tree.specs.declared.stmt.Stmt.{Stmt}
 use Rattle.dc_front.specs.Value.{is_digit}

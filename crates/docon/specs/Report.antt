@@ -1,6 +1,6 @@
 -- The report: what the program writes and answers, from its words and the outcome of the file's
 -- reading. This project's own.
-use Rattle.std.specs.Prelude.{◌≡◌, ◌<◌, ℕ, ◌+◌, Bool, true, false, not, ◌&&◌, ◌==◌, List, [], ◌∷◌, ◌++◌, length, take, codes, decimal, Option, Some, None, option_map, MatchOption, IfSome, ℤ, if◌then◌else◌, ◌⊎◌}
+use Rattle.std.specs.Prelude.{◌≡◌, ℕ, Bool, false, not, ◌&&◌, ◌==◌, List, [], ◌∷◌, ◌++◌, take, codes, decimal, Option, Some, None, MatchOption, IfSome, ℤ, if◌then◌else◌, ◌⊎◌}
 use Rattle.std.specs.Str.{bytes_eq, is_utf8}
 use Rattle.dc_tree.specs.declared.program.Program.{Program}
 use Rattle.dc_tree.specs.Syntax.{tree}

@@ -1,6 +1,6 @@
 -- What the runner found, and what it owes.
-use Rattle.std.specs.Prelude.{◌≡◌, ◌≤◌, ℕ, true, List, map, pos, Option, Some, IsTrue}
-use Rattle.dc_tree.specs.Syntax.{Tree, tree, items}
+use Rattle.std.specs.Prelude.{◌≡◌, ℕ, List, map, pos, Some, IsTrue}
+use Rattle.dc_tree.specs.Syntax.{tree, items}
 use Rattle.dc_tree.specs.declared.program.Program.{Program}
 use Rattle.docon.specs.Meaning.{number_of, value, iterations, line_of}
 use Rattle.docon.specs.Parts.{Parts, parts_in, is_short, has_short_numbers}

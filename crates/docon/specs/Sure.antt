@@ -1,6 +1,6 @@
 -- Runs over files in memory that never fail and over sinks in memory that fail only where they are
 -- full.
-use Rattle.std.specs.Prelude.{◌≡◌, ℕ, List, [], take, Option, Some, unwrap_or, ◌⊎◌}
+use Rattle.std.specs.Prelude.{ℕ, List, [], take, Some, unwrap_or, ◌⊎◌}
 use Rattle.dc_outer.specs.Memory.{SureSink, room_left, held_or_empty}
 use Rattle.docon.specs.declared.report.Report.{Report}
 use Rattle.docon.specs.Report.{contents, file_of, read_limit, IsReport}

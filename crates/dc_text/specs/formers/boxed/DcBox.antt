@@ -57,7 +57,7 @@ module _ (From To : RattleType) (along : From.Denot → To.Denot) where
       (invariant From.Denot) (invariant To.Denot) (λ s p q. refl) (λ s p q. refl) (λ s e. tt) (λ s e. tt)
       (over (inside.the_row From)) (over (inside.the_row To))
       (struct_places (inside.the_type From) (inside.the_type To) ((λ b. around b (along b.value)), tt) _ (λ d. refl) refl
-          (laid _ _ _ (box_alike alike), tt))
+      (laid _ _ _ (box_alike alike), tt))
 
   pub the_codes_placed : Recodes From To along → Recodes (outside.the_row From) (outside.the_row To) ((the_former this).map From.Denot To.Denot along)
   the_codes_placed recodes held = recodes held

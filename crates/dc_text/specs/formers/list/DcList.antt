@@ -46,7 +46,7 @@ module _ (From To : RattleType) (along : From.Denot → To.Denot) where
       (invariant From.Denot) (invariant To.Denot) (λ s p q. refl) (λ s p q. refl) (λ s e. tt) (λ s e. tt)
       (over (inside.the_row From)) (over (inside.the_row To))
       (struct_places (inside.the_type From) (inside.the_type To) (vec.mapped along, tt) _ (λ xs. refl) refl
-          (laid _ _ _ (vec.the_places heap.the_row ghosts From To along alike), tt))
+      (laid _ _ _ (vec.the_places heap.the_row ghosts From To along alike), tt))
 
   pub the_codes_placed : Recodes From To along → Recodes (outside.the_row From) (outside.the_row To) ((the_former this).map From.Denot To.Denot along)
   the_codes_placed recodes xs = sym (code_map From.coded.code To.coded.code along (λ x. sym (recodes x)) xs)

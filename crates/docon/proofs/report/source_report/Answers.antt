@@ -1,4 +1,4 @@
-use Rattle.std.proofs.Common.{◌≡◌, List, ℕ, sym, ap, subst, inl}
+use Rattle.std.proofs.Common.{List, ℕ, sym, subst, inl}
 use Rattle.dc_tree.specs.declared.program.Program.{Program}
 use Rattle.docon.specs.declared.report.Report.{Report}
 use Rattle.docon.specs.Report.{IsSourceReport}

@@ -1,4 +1,4 @@
-use Rattle.std.proofs.Common.{sym, ap, ◌∙◌, ◌≡◌, true, rules, arith}
+use Rattle.std.proofs.Common.{sym, ap, ◌∙◌, rules, arith}
 use Rattle.dc_tree.specs.declared.expr.Expr.{the_lemmas}
 use Rattle.dc_tree.specs.Syntax.{tree}
 use Rattle.dc_tree.proofs.Views.{tree-Binary}

@@ -1,5 +1,5 @@
 use Rattle.std.proofs.Common.{◌≤◌, ◌^◌, length, arith}
-use Rattle.docon.proofs.Numbers.{short-length, power-small, power-small_nine}
+use Rattle.docon.proofs.Numbers.{short-length, power-small}
 use Rattle.docon.proofs.runner.number_of.Goals as goal
 
 pub overflow_mul-number : goal.overflow_mul-number

@@ -1,4 +1,4 @@
-use Rattle.std.proofs.Common.{◌≡◌, ap, inl, inr, refl}
+use Rattle.std.proofs.Common.{ap, inr, refl}
 use Rattle.docon.specs.Causes.{Reading, Change, reading, change}
 use Rattle.docon.proofs.Causes.{Wrote, causes_done, causes_refused, causes_words, causes_read, causes_write, causes_memory, complete, is_status, no_write_fails}
 use Rattle.docon.proofs.top.docon.Goals as goal

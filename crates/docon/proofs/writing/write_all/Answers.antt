@@ -1,4 +1,4 @@
-use Rattle.std.proofs.Common.{◌≡◌, ℕ, ◌+◌, ◌-◌, ◌<◌, ◌≤◌, ◌++◌, Bool, true, false, List, length, take, drop, length-drop, refl, sym, ap, ◌∙◌, arith, rules, append_assoc}
+use Rattle.std.proofs.Common.{◌≡◌, ℕ, ◌+◌, ◌-◌, ◌<◌, ◌≤◌, ◌++◌, true, false, List, length, take, drop, length-drop, refl, sym, ap, ◌∙◌, arith, rules, append_assoc}
 use Rattle.std.specs.Prelude.{Option, Some, None, IfSome, option_map}
 use Rattle.std.proofs.Math.Seq.{take-add}
 use Rattle.docon.specs.Room.{WritesInRoom}
