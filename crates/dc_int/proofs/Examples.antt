@@ -1,0 +1,4 @@
+-- Examples of the definitions, each computed.
+pub mod Entries
+pub mod Operations
+pub mod Store

@@ -1,0 +1,5 @@
+pub mod Examples
+pub mod Powers
+pub mod Reductions
+pub mod Stores
+pub mod Wraps

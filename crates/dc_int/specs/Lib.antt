@@ -1,0 +1,5 @@
+pub mod Entries
+pub mod Kinds
+pub mod Operations
+pub mod Reductions
+pub mod Store
