@@ -52,6 +52,7 @@ writes-unbroken index (binary mark l r) bytes letter written =
     ap (list_all is_no_feed) written.6
     ∙ both-unbroken written.0 (written.1 ++ written.2) (writes-unbroken index l written.0 letter written.3)
     (both-unbroken written.1 written.2 (joint-unbroken mark written.1 written.4) (writes-unbroken index r written.2 letter written.5))
+writes-unbroken index other bytes letter written = absurd written
 
 -- the bytes of a value have no line feed
 pub value-unbroken : (index : ℕ) (bytes : List ℕ) (e : Expr) → is_letter index ≡ true → SpellsValue index bytes e → list_all is_no_feed bytes ≡ true

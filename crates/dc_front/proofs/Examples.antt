@@ -1,10 +1,11 @@
 -- Small examples of the form and of its values, which compute.
-use Rattle.std.proofs.Common.{◌≡◌, ℕ, ◌≤◌, true, false, List, [], ◌∷◌, Some, None, refl, arith}
+use Rattle.std.proofs.Common.{◌≡◌, ◌≤◌, true, false, Some, None, refl, arith}
 use Rattle.std.specs.Prelude.{codes}
 use Rattle.dc_tree.specs.declared.token.Mark.{Mark}
 use Rattle.dc_tree.specs.declared.token.Suffix.{Suffix}
 use Rattle.dc_tree.specs.Syntax.{Tree, number, name, binary}
 use Rattle.dc_tree.specs.Grammar.{Ranked}
+use Rattle.dc_tree.proofs.Names.{letter-is_name}
 use Rattle.dc_front.specs.FirstForm.{Form, is_form, is_size, joined, program_line, declaration_line, concurrent_line, assignment_line, end_do_line, print_line, end_program_line}
 use Rattle.dc_front.specs.Value.{operands}
 use Rattle.dc_front.specs.ValueReading.{tree_in, step_operand, step_has, step_digits}
@@ -51,14 +52,14 @@ seven = number (codes "7") Suffix.Absent
 
 -- `7 - i - i` is from the left
 from_the_left : Ranked (binary Mark.Minus (binary Mark.Minus seven i) i)
-from_the_left = (refl, omega arith, omega arith, (refl, omega arith, omega arith, tt, tt), tt)
+from_the_left = (refl, omega arith, omega arith, (refl, omega arith, omega arith, tt, letter-is_name 105), letter-is_name 105)
 
 not_from_the_right : Ranked (binary Mark.Minus seven (binary Mark.Minus i i)) → ⊥
 not_from_the_right ranked = let high : 6 ≤ 5 = ranked.2 in omega arith
 
 -- `*` binds before `+`
 times_first : Ranked (binary Mark.Plus i (binary Mark.Times i i))
-times_first = (refl, omega arith, omega arith, tt, (refl, omega arith, omega arith, tt, tt))
+times_first = (refl, omega arith, omega arith, letter-is_name 105, (refl, omega arith, omega arith, letter-is_name 105, letter-is_name 105))
 
 not_plus_first : Ranked (binary Mark.Times (binary Mark.Plus i i) i) → ⊥
 not_plus_first ranked = let high : 6 ≤ 5 = ranked.1 in omega arith

@@ -169,6 +169,7 @@ leaf-read index (name text) bytes fresh left letter top written room =
     subst (After left.sum (times left.product (name text)) (left.count + 1)) (sym place)
     (refl, refl, ap (λ t. times left.product (name t)) (sym written.0), refl)
 leaf-read index (binary mark l r) bytes fresh left letter top written room = absurd (join-level mark (operator-join written.4.byte mark written.4.writes) top)
+leaf-read index other bytes fresh left letter top written room = absurd written
 
 -- from the place that joins two operands
 joined-read : (index : ℕ) (first joint second : List ℕ) (fresh : Bool) (left : Left) (mark : Mark) (sum : Option (Tree × Mark)) (term : Tree) (count : ℕ)
@@ -184,6 +185,7 @@ some_operand : (e : Tree) → 1 ≤ operands e
 some_operand (number digits suffix) = omega arith
 some_operand (name text) = omega arith
 some_operand (binary mark l r) = let left = some_operand l in omega arith
+some_operand other = omega arith
 
 times-only : (mark : Mark) → IsJoin mark → 6 ≤ level mark → mark ≡ Mark.Times
 times-only mark (inl is) high = let e = ap level is in absurd (omega arith)
@@ -198,6 +200,7 @@ leaf-rank index (binary mark l r) bytes written high =
     let join = operator-join written.4.byte mark written.4.writes in
     let e = ap level (times-only mark join (omega arith)) in
     absurd (omega arith)
+leaf-rank index other bytes written high = absurd written
 
 -- a term, from a place that wants an operand and has no product to multiply
 pub term-read : (index : ℕ) (e : Tree) (bytes : List ℕ) (fresh : Bool) (sum : Option (Tree × Mark)) (count : ℕ) → is_letter index ≡ true → 6 ≤ rank e → Ranked e → Writes index e bytes → count + operands e ≤ 100
@@ -222,6 +225,7 @@ term-read index (binary mark l r) bytes fresh sum count letter high ranked writt
     let here = subst (After sum (binary Mark.Times l r) ((count + operands l) + 1)) (sym place) second in
     let counted = subst (λ (n : ℕ). After sum (binary Mark.Times l r) n (run index bytes (wants fresh start_left))) number here in
     subst (λ (m : Mark). After sum (binary m l r) (count + (operands l + operands r)) (run index bytes (wants fresh start_left))) (sym is) counted
+term-read index other bytes fresh sum count letter high ranked written room = absurd written
 
 -- Where the reader stands behind a whole value.
 pub record Behind (e : Tree) (count : ℕ) (p : Progress) : Type 0 where
@@ -268,6 +272,7 @@ sum-read index (binary mark l r) bytes fresh count letter ranked written room =
         whole = refl;
       }
     ]
+sum-read index other bytes fresh count letter ranked written room = absurd written
 
 finish-behind : (e : Tree) (count : ℕ) (p : Progress) → Behind e count p → finish p ≡ Some e
 finish-behind e count p behind = by_place p behind.after ∙ ap (λ (t : Tree). Some t) behind.whole

@@ -7,6 +7,7 @@ use Rattle.std.proofs.lemmas.Option.{none-some, same_Some}
 use Rattle.dc_tree.specs.declared.token.Mark.{Mark}
 use Rattle.dc_tree.specs.Syntax.{Tree, name}
 use Rattle.dc_tree.specs.Grammar.{is_binary, rank, level, left_rank, right_rank, Ranked}
+use Rattle.dc_tree.proofs.Names.{letter-is_name}
 use Rattle.dc_front.specs.Value.{is_digit, is_literal, operator, blank, Joins, Writes, operands, SpellsTree}
 use Rattle.dc_front.specs.ValueReading.{Left, Progress, wants, in_digits, has, failed, times, plus, with_operand, with_operator, one_more, of_number, step_operand, step_has, step_digits, step, run, finish, start, tree_in}
 use Rattle.dc_front.proofs.ValueComplete.{IsJoin, operator-join}
@@ -266,7 +267,7 @@ operand-step index fresh left byte bytes s = by_tests (leb (suc left.count) 100)
         record { before = bytes; lefts = s.here; literal = rw ed refl; is = refl; count = omega (arith, s.count); few = omega arith }
     by_tests true er false ed true eo =
         let few : suc left.count ≤ 100 = leb-true (suc left.count) 100 er in
-        let leaf : Good index 8 (name (index ∷ [])) (byte ∷ []) = record { ranked = tt; high = omega arith; written = (refl, ap (λ c. c ∷ []) (eqb-true byte index eo)) } in
+        let leaf : Good index 8 (name (index ∷ [])) (byte ∷ []) = record { ranked = letter-is_name index; high = omega arith; written = (refl, ap (λ c. c ∷ []) (eqb-true byte index eo)) } in
         let term = times-good index left.sum left.product (name (index ∷ [])) bytes (byte ∷ []) s.here leaf in
         record {
           before = term.0;

@@ -37,12 +37,14 @@ Writes index (number digits suffix) bytes = (suffix ≡ Suffix.Absent) × IsTrue
 Writes index (name text) bytes = (text ≡ index ∷ []) × (bytes ≡ index ∷ [])
 Writes index (binary mark left right) bytes =
     (first : List ℕ) × (joint : List ℕ) × (second : List ℕ) × Writes index left first × Joins mark joint × Writes index right second × (bytes ≡ first ++ (joint ++ second))
+Writes index other bytes = ⊥
 
 -- how many operands a tree has
 abbrev pub operands : Tree → ℕ
 operands (number digits suffix) = 1
 operands (name text) = 1
 operands (binary mark left right) = operands left + operands right
+operands other = 1
 
 -- The bytes spell the tree: they write it, the grammar gives it, and it has up to 100 operands.
 pub record SpellsTree (index : ℕ) (bytes : List ℕ) (e : Tree) : Type 0 where

@@ -3,7 +3,7 @@ use dc_tree::{Expr, Mark};
 
 /// What stands to the left of the operand that comes: a sum with its operator, a product that is
 /// to be multiplied, and how many operands there were.
-#[derive(Debug, Drop)]
+#[derive(Drop)]
 pub(crate) struct Left {
     pub sum: Option<(Expr, Mark)>,
     pub product: Option<Expr>,
@@ -11,7 +11,7 @@ pub(crate) struct Left {
 }
 
 /// Where the reader of a value stands.
-#[derive(Debug, Drop)]
+#[derive(Drop)]
 pub(crate) enum Progress {
     Wants {
         fresh: bool,

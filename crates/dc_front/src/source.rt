@@ -9,7 +9,6 @@ use std::alloc::Global;
 use std::marker::Model;
 
 /// A source that breaks no rule, with its tree.
-#[derive(Debug)]
 pub struct Accepted {
     program: Program,
 }

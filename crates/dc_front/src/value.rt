@@ -214,12 +214,18 @@ fn finish(alloc: Global, progress: Progress) -> Result<Option<Expr>, NoMemory>
             Ok(Some(plus(alloc, sum, term)?))
         }
         Progress::Has {
-            spaced: false,
+            spaced,
             sum,
             term,
             ..
-        } => Ok(Some(plus(alloc, sum, term)?)),
-        _ => Ok(None),
+        } => {
+            if spaced {
+                return Ok(None);
+            }
+            Ok(Some(plus(alloc, sum, term)?))
+        }
+        Progress::Wants { left: _left, .. } => Ok(None),
+        Progress::Failed => Ok(None),
     }
 }
 

@@ -1,1 +1,5 @@
+pub mod Back
+mod Examples
+pub mod Names
+pub mod Places
 pub mod Views

@@ -1,2 +1,6 @@
+pub mod Back
 pub mod Grammar
+pub mod Names
+pub mod Places
+pub mod Symbols
 pub mod Syntax

@@ -3,14 +3,22 @@
 
 mod expr;
 mod fail;
+mod laws;
 mod program;
 mod stmt;
+mod symbols;
 mod token;
 
-pub use expr::Expr;
+pub use expr::{Arg, Expr};
 pub use fail::{Fail, Refusal};
-pub use program::{Block, Lined, Node, Procedure, Program};
+pub use laws::trees_are_told_apart;
+pub use program::{Block, Lined, Node, Part, Procedure, Program};
 pub use stmt::{
-    Action, Attr, Bound, Entity, Index, Init, Intent, Local, Stmt, Target, TypeSpec, Unit,
+    Action, Attr, Bound, Counted, Entity, Index, Init, Intent, Local, Prefix, Range, Stmt, Target,
+    TypeSpec, Unit, UseForm,
 };
-pub use token::{Mark, Suffix};
+pub use symbols::{Role, Symbol, Symbols};
+pub use token::{Mark, Suffix, Token};
+
+#[cfg(test)]
+mod tests;

@@ -2,7 +2,7 @@ use crate::stmt::Stmt;
 use dc_text::DcList;
 
 /// A statement with the line on which it begins, counted from 1.
-#[derive(Debug, Drop)]
+#[derive(Drop)]
 pub struct Lined {
     pub line: u32,
     pub stmt: Stmt,
@@ -10,15 +10,26 @@ pub struct Lined {
 
 /// Statements in their order, those between an opening and its closing being one node.
 #[cycle(block)]
-#[derive(Debug, Drop)]
+#[derive(Drop)]
 pub struct Block {
     pub nodes: DcList<Node>,
 }
 
 #[cycle(block)]
-#[derive(Debug, Drop)]
+#[derive(Drop)]
 pub enum Node {
     Plain(Lined),
+    /// Its arms begin with IF, ELSE IF and ELSE.
+    If {
+        arms: DcList<Part>,
+        close: Lined,
+    },
+    /// Its arms begin with CASE.
+    Select {
+        head: Lined,
+        arms: DcList<Part>,
+        close: Lined,
+    },
     Loop {
         head: Lined,
         body: Block,
@@ -26,8 +37,16 @@ pub enum Node {
     },
 }
 
+/// One arm of an IF or SELECT CASE construct.
+#[cycle(block)]
+#[derive(Drop)]
+pub struct Part {
+    pub head: Lined,
+    pub body: Block,
+}
+
 /// A function or subroutine after CONTAINS.
-#[derive(Debug, Drop)]
+#[derive(Drop)]
 pub struct Procedure {
     pub head: Lined,
     pub front: DcList<Lined>,
@@ -36,7 +55,7 @@ pub struct Procedure {
 }
 
 /// A main program. `front` has its declarations, and `contains` the line of CONTAINS.
-#[derive(Debug, Drop)]
+#[derive(Drop)]
 pub struct Program {
     pub head: Lined,
     pub front: DcList<Lined>,

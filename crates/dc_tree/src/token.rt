@@ -1,5 +1,14 @@
 use dc_text::DcText;
 
+/// A token of a statement.
+#[derive(Debug, Drop)]
+pub enum Token {
+    Word(DcText),
+    Number { digits: DcText, suffix: Suffix },
+    Chars(DcText),
+    Mark(Mark),
+}
+
 /// The kind that follows a number after `_`: digits, or a name.
 #[derive(Debug, Drop)]
 pub enum Suffix {

@@ -1,8 +1,9 @@
 -- What the runner finds in the tree of a form, and in other blocks.
 use Rattle.std.proofs.Common.{◌≡◌, ◌⊎◌, ◌<◌, List, [], ◌∷◌, length, map, Some, None, refl, sym, ap, ◌∙◌, inl, inr, arith}
-use Rattle.dc_tree.specs.Syntax.{Item, Items, plain, loop, none, and_then, tree, item, items, items_from, item_step, items_step}
+use Rattle.dc_tree.specs.Syntax.{Item, Items, plain, loop, none, and_then, tree, item, items, items_from, item_step, items_step, part_step}
 use Rattle.dc_tree.specs.declared.expr.Expr.{Expr}
 use Rattle.dc_tree.specs.declared.program.Block.{Block, out-Block, fold_out-Block}
+use Rattle.dc_tree.specs.declared.program.Lined.{Lined}
 use Rattle.dc_tree.specs.declared.program.Node.{Node, Plain}
 use Rattle.dc_tree.specs.declared.stmt.Stmt.{Stmt}
 use Rattle.dc_tree.specs.declared.token.Suffix.{Suffix}
@@ -13,7 +14,7 @@ use Rattle.docon.specs.Parts.{digits_in, only_in, parts_in}
 
 two_in : (first second : Item) (rest : Items) → only_in (and_then first (and_then second rest)) ≡ None
 two_in (plain lined) second rest = refl
-two_in (loop head body close) second rest = refl
+two_in other second rest = refl
 
 many_in : (nodes : List Node) → (length nodes < 1) ⊎ (1 < length nodes) → only_in (items_from (map item nodes)) ≡ None
 many_in [] count = refl
@@ -23,7 +24,7 @@ many_in (x ∷ y ∷ rest) count = two_in (item x) (item y) (items_from (map ite
 -- a block that doesn't hold just one node
 pub only_in-many : (block : Block) (nodes : List Node) → nodes ≡ (out-Block block).nodes → (length nodes < 1) ⊎ (1 < length nodes) → None ≡ only_in (items block)
 only_in-many block nodes same count =
-    let whole : items block ≡ items_from (map item (out-Block block).nodes) = fold_out-Block Item Items item_step items_step block in
+    let whole : items block ≡ items_from (map item (out-Block block).nodes) = fold_out-Block Item Items (Lined × Items) item_step items_step part_step block in
     sym (ap only_in whole ∙ ap (λ (x : List Node). only_in (items_from (map item x))) (sym same) ∙ many_in nodes count)
 
 -- the tree of a form has its size and its value

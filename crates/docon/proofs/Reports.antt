@@ -28,6 +28,7 @@ writes-short : (index : ℕ) (e : Tree) (text : List ℕ) → Writes index e tex
 writes-short index (number digits suffix) text written = literal-short digits written.1
 writes-short index (name word) text written = refl
 writes-short index (binary mark l r) text written = rw (writes-short index l written.0 written.3, writes-short index r written.2 written.5) refl
+writes-short index other text written = absurd written
 
 -- the numbers of a value of the form are short
 pub short-value : (index : ℕ) (text : List ℕ) (e : Expr) → SpellsValue index text e → has_short_numbers (tree e) ≡ true

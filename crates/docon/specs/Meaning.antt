@@ -25,11 +25,13 @@ exact Mark.Times a b = a *ℤ b
 exact mark a b = pos 0
 
 -- The value of an expression where the index has this number: each operation is the exact
--- one, followed by wrapping to kind 4. The index is the one name of the form.
+-- one, followed by wrapping to kind 4. The index is the one name of the form, which has no
+-- other expressions.
 abbrev pub value : Tree → ℤ → ℤ
 value (number digits suffix) index = pos (number_of digits)
 value (name text) index = index
 value (binary mark left right) index = int_wrap w32 (exact mark (value left index) (value right index))
+value other index = pos 0
 
 -- The elements of the array, each a number or undefined.
 abbrev pub Elements : Type 0

@@ -1,6 +1,6 @@
 -- What the runner takes from a program: the digits of the loop's last limit, and the value that
 -- the loop's one statement assigns.
-use Rattle.std.specs.Prelude.{ℕ, Bool, true, ◌&&◌, nat_le, List, [], ◌∷◌, length, Option, Some, None, option_and_then, option_map}
+use Rattle.std.specs.Prelude.{ℕ, Bool, true, false, ◌&&◌, nat_le, List, [], ◌∷◌, length, Option, Some, None, option_and_then, option_map}
 use Rattle.std.specs.List.{list_all}
 use Rattle.dc_tree.specs.Syntax.{Tree, Items, number, name, binary, plain, loop, none, and_then, tree}
 use Rattle.dc_tree.specs.declared.stmt.Action.{Action}
@@ -42,3 +42,4 @@ abbrev pub has_short_numbers : Tree → Bool
 has_short_numbers (number digits suffix) = is_short digits
 has_short_numbers (name text) = true
 has_short_numbers (binary mark left right) = has_short_numbers left && has_short_numbers right
+has_short_numbers other = false

@@ -49,6 +49,8 @@ fn only_in(block: &Block) -> Option<&Stmt>
 {
     match block.nodes.as_slice() {
         [Node::Plain(lined)] => Some(&lined.stmt),
+        [Node::If { .. }] => None,
+        [Node::Select { .. }] => None,
         [Node::Loop { .. }] => None,
         _ => None,
     }

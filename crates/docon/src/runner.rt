@@ -46,6 +46,7 @@ pub(crate) fn value(expr: &Expr, index: i32) -> i32
             let left = value(left.get(), index);
             operate(*mark, left, value(right.get(), index))
         }
+        _ => 0,
     }
 }
 
