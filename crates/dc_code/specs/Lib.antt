@@ -1,1 +1,5 @@
+pub mod Breaks
+pub mod Closing
+pub mod Combinations
 pub mod Computation
+pub mod Pairs
