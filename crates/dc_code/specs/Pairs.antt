@@ -1,7 +1,7 @@
 -- Which element clashes, and which two iterations are named. Iterations are counted from 0, and
 -- each is given by the entries that it makes alone on the opening store. This project's own, on the
 -- restrictions of ISO/IEC 1539-1:2023, clause 11.1.7.5.
-use Rattle.std.specs.Prelude.{ℕ, suc, Bool, false, not, ◌||◌, List, [], ◌∷◌, Option, Some, None, option_map, find, if◌then◌else◌}
+use Rattle.std.specs.Prelude.{◌≡◌, ◌≢◌, slice_get, ℕ, suc, Bool, true, false, not, ◌||◌, List, [], ◌∷◌, Option, Some, None, option_map, find, if◌then◌else◌}
 use Rattle.std.specs.List.{list_any}
 use Rattle.dc_int.specs.declared.access.ElementId.{ElementId}
 use Rattle.dc_int.specs.declared.variable.Locality.{Locality}
@@ -23,17 +23,16 @@ pub record Ends : Type 0 where
   pub least : ℕ
   pub greatest : ℕ
 
--- the ends with this iteration in front, whose number is less than any before
-abbrev pub widened : ℕ → Option Ends → Ends
-widened number None = record { least = number; greatest = number }
-widened number (Some ends) = record { least = number; greatest = ends.greatest }
-
-abbrev pub ends_from : ℕ → (List Entry → Bool) → List (List Entry) → Option Ends
-ends_from number test [] = None
-ends_from number test (run ∷ runs) = let later = ends_from (suc number) test runs in if test run then Some (widened number later) else later
+-- the ends among one more iteration in front of those that were counted, which moves them on by one
+abbrev pub widened : Bool → Option Ends → Option Ends
+widened true None = Some (record { least = 0; greatest = 0 })
+widened true (Some ends) = Some (record { least = 0; greatest = suc ends.greatest })
+widened false None = None
+widened false (Some ends) = Some (record { least = suc ends.least; greatest = suc ends.greatest })
 
 abbrev pub ends_of : (List Entry → Bool) → List (List Entry) → Option Ends
-ends_of test runs = ends_from 0 test runs
+ends_of test [] = None
+ends_of test (run ∷ runs) = widened (test run) (ends_of test runs)
 
 -- touchers and readers: the first reader that isn't the least toucher, or the least reader behind
 -- the greatest toucher
@@ -56,3 +55,19 @@ pair_of locality (Some touchers) readers =
 -- two touchers where it is SHARED, and else a toucher and an exposed reader.
 abbrev pub pair : Locality → ElementId → List (List Entry) → Option (ℕ × ℕ)
 pair locality x runs = pair_of locality (ends_of (touches x) runs) (ends_of (exposes x) runs)
+
+-- The iterations of these two numbers are different, and break the restriction of the element.
+pub record BreakTogether (locality : Locality) (x : ElementId) (runs : List (List Entry)) (i j : ℕ) : Type 0 where
+  pub different : i ≢ j
+  pub one : List Entry
+  pub other : List Entry
+  pub one_is : slice_get runs i ≡ Some one
+  pub other_is : slice_get runs j ≡ Some other
+  pub broken : breaks locality x one other ≡ true
+
+-- A pair is named, and it breaks the restriction.
+pub record NamesBreak (locality : Locality) (x : ElementId) (runs : List (List Entry)) : Type 0 where
+  pub i : ℕ
+  pub j : ℕ
+  pub named : pair locality x runs ≡ Some (i, j)
+  pub together : BreakTogether locality x runs i j

@@ -1,7 +1,9 @@
-ghost use Rattle.std.specs.Prelude.{◌≡◌, ◌⊎◌, List, false};
+ghost use Rattle.std.specs.Prelude.{◌≡◌, ◌⊎◌, List, true, false};
 ghost use Rattle.dc_int.specs.declared.access.ElementId.{ElementId};
+ghost use Rattle.dc_int.specs.declared.variable.Locality.{Locality};
 ghost use Rattle.dc_int.specs.Store.{Store, cell_of};
 ghost use Rattle.dc_int.specs.Entries.{Entry, store_after, touches};
+ghost use Rattle.dc_code.specs.Pairs.{clashes, NamesBreak};
 ghost use Rattle.dc_code.specs.Computation.{Computation, sequence, over, followed, Agree, SameRun, SameShape, FirstDifference};
 
 /// What a store makes of 'first this, then that': the first, followed by the rest over the store that
@@ -32,4 +34,10 @@ pub fn agreeing_stores_run_alike<E, T, A>()
 pub fn runs_differ_first_at_a_read<E, T, A>()
     ensures { (c : Computation E T A) (first second : Store) → SameShape first second
         → SameRun (over first c) (over second c) ⊎ FirstDifference first second (over first c).entries (over second c).entries }
+{}
+
+/// The pair that is named for a clashing element is a real one: two different iterations that break
+/// its restriction.
+pub fn named_pair_breaks()
+    ensures { (locality : Locality) (x : ElementId) (runs : List (List Entry)) → clashes locality x runs ≡ true → NamesBreak locality x runs }
 {}

@@ -70,7 +70,7 @@ cell-after (entry ∷ entries) store x =
 
 -- ---- the last states
 
-same-is : (m n : ℕ) → same m n ≡ true → m ≡ n
+pub same-is : (m n : ℕ) → same m n ≡ true → m ≡ n
 same-is zero zero e = refl
 same-is zero (suc n) e = cc
 same-is (suc m) zero e = cc
