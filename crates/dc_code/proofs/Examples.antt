@@ -11,7 +11,7 @@ use Rattle.dc_int.specs.Store.{Store, cell_of, value_at, put_at}
 use Rattle.dc_code.specs.Breaks.{breaks, first_break, named_beside}
 use Rattle.dc_code.specs.Combinations.{values_of, combinations}
 use Rattle.dc_code.specs.Pairs.{clashes, first_clash, pair}
-use Rattle.dc_code.specs.Closing.{closing}
+use Rattle.dc_code.specs.Closing.{Localities, closing}
 
 -- ---- combinations
 
@@ -47,6 +47,9 @@ unspecified variable = Locality.Plain
 abbrev shared : ℕ → Locality
 shared variable = Locality.Shared
 
+abbrev all_of_kind_4 : (ℕ → Locality) → Localities
+all_of_kind_4 locality = record { locality = locality; kind = λ variable. Kind.K4; passed = λ variable. false }
+
 -- ---- `a(i) = a(i-1)` for i of 2 and 3: the first defines what the second reads
 
 abbrev shifting : List (List Entry)
@@ -79,7 +82,7 @@ temporary_is_allowed = refl
 
 -- it is undefined after the loop
 temporary_is_undefined
-    : closing unspecified (λ variable. Kind.K4) temporaries small
+    : closing (all_of_kind_4 unspecified) 3 temporaries small
     ≡ record { bounds = Some ((pos 1, pos 3) ∷ []); cells = Some (pos 5) ∷ Some (pos 6) ∷ Some (pos 7) ∷ [] } ∷ record { bounds = Some []; cells = None ∷ [] } ∷ []
 unfolding put_at value_at cell_of
 temporary_is_undefined = refl
@@ -124,7 +127,7 @@ abbrev sums : ℕ → Locality
 sums variable = Locality.Reduce ReduceOp.Add
 
 summed
-    : closing sums (λ variable. Kind.K4) ((Contributes t ReduceOp.Add (pos 4) ∷ []) ∷ (Contributes t ReduceOp.Add (pos 9) ∷ []) ∷ []) small
+    : closing (all_of_kind_4 sums) 3 ((Contributes t ReduceOp.Add (pos 4) ∷ []) ∷ (Contributes t ReduceOp.Add (pos 9) ∷ []) ∷ []) small
     ≡ record { bounds = Some ((pos 1, pos 3) ∷ []); cells = Some (pos 5) ∷ Some (pos 6) ∷ Some (pos 7) ∷ [] } ∷ record { bounds = Some []; cells = Some (pos 13) ∷ [] } ∷ []
 unfolding put_at value_at cell_of int_wrap
 summed = refl

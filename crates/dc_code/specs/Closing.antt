@@ -1,50 +1,83 @@
 -- What a loop changes in the store that its iterations leave, where all of them ended well. After
 -- ISO/IEC 1539-1:2023, clauses 11.1.7.5 and 19.6.6.
-use Rattle.std.specs.Prelude.{ℕ, Bool, false, ◌&&◌, ◌||◌, List, [], ◌∷◌, ◌++◌, Option, Some, None, if◌then◌else◌, ℤ}
+use Rattle.std.specs.Prelude.{ℕ, Bool, true, false, ◌&&◌, ◌||◌, List, [], ◌∷◌, ◌++◌, filter, filter_map, flat_map, map, Option, Some, None, if◌then◌else◌, ℤ}
 use Rattle.std.specs.List.{list_any}
 use Rattle.dc_int.specs.declared.access.ElementId.{ElementId}
 use Rattle.dc_int.specs.declared.kind.Kind.{Kind}
 use Rattle.dc_int.specs.declared.operation.ReduceOp.{ReduceOp}
 use Rattle.dc_int.specs.declared.variable.Locality.{Locality}
-use Rattle.dc_int.specs.Entries.{Entry, Contributes, touches}
+use Rattle.dc_int.specs.Entries.{Entry, Defines, Undefines, Contributes, touches, store_after}
 use Rattle.dc_int.specs.Reductions.{combined}
-use Rattle.dc_int.specs.Store.{Store, same_element, value_at, put_at, elements_of}
+use Rattle.dc_int.specs.Store.{Store, same_element, value_at, elements_of}
+
+-- What is known of the outside variables in a loop, by their numbers: the locality and the kind of each,
+-- and whether its contributions pass to a loop around, where it is REDUCE too.
+pub record Localities : Type 0 where
+  pub locality : ℕ → Locality
+  pub kind : ℕ → Kind
+  pub passed : ℕ → Bool
+
+-- ---- elements that become undefined
 
 -- Two or more iterations touch the element.
 abbrev pub is_touched_twice : ElementId → List (List Entry) → Bool
 is_touched_twice x [] = false
 is_touched_twice x (one ∷ others) = (touches x one && list_any (touches x) others) || is_touched_twice x others
 
-abbrev pub contributed_by : ElementId → Entry → List ℤ
-contributed_by x (Contributes y op value) = if same_element x y then value ∷ [] else []
-contributed_by x entry = []
+abbrev pub is_unspecified : Locality → Bool
+is_unspecified Locality.Plain = true
+is_unspecified locality = false
 
-abbrev pub contributed_in : ElementId → List Entry → List ℤ
-contributed_in x [] = []
-contributed_in x (entry ∷ entries) = contributed_by x entry ++ contributed_in x entries
+-- The elements of unspecified locality that two or more iterations touched, in store order.
+abbrev pub forgotten : Localities → List (List Entry) → Store → List ElementId
+forgotten known runs store = filter (λ x. is_unspecified (known.locality x.variable) && is_touched_twice x runs) (elements_of store)
+
+-- ---- elements of reductions
+
+abbrev pub contributed_by : ElementId → Entry → Option ℤ
+contributed_by x (Contributes y op value) = if same_element x y then Some value else None
+contributed_by x entry = None
 
 -- What the iterations contributed to a REDUCE element, in their order.
 abbrev pub contributed : ElementId → List (List Entry) → List ℤ
-contributed x [] = []
-contributed x (run ∷ runs) = contributed_in x run ++ contributed x runs
+contributed x runs = flat_map (filter_map (contributed_by x)) runs
 
 -- A value combined with others, one after another.
 abbrev pub combined_with : ReduceOp → Kind → ℤ → List ℤ → ℤ
 combined_with op kind value [] = value
 combined_with op kind value (other ∷ others) = combined_with op kind (combined op kind value other) others
 
--- The state of an element when the loop ends: undefined where it is of unspecified locality and
--- touched twice, and combined where it is a REDUCE element.
-abbrev pub closed_state : Locality → Kind → ElementId → List (List Entry) → Option ℤ → Option ℤ
-closed_state Locality.Plain kind x runs state = if is_touched_twice x runs then None else state
-closed_state (Locality.Reduce op) kind x runs (Some value) = Some (combined_with op kind value (contributed x runs))
-closed_state locality kind x runs state = state
+-- The operation of a REDUCE variable whose contributions don't pass to a loop around.
+abbrev pub own_operation : Localities → ℕ → Option ReduceOp
+own_operation known variable = if known.passed variable then None else by (known.locality variable)
+  where
+    by : Locality → Option ReduceOp
+    by (Locality.Reduce op) = Some op
+    by locality = None
 
-abbrev pub closing_over : (ℕ → Locality) → (ℕ → Kind) → List (List Entry) → List ElementId → Store → Store
-closing_over locality kind runs [] store = store
-closing_over locality kind runs (x ∷ elements) store =
-    closing_over locality kind runs elements (put_at store x (closed_state (locality x.variable) (kind x.variable) x runs (value_at store x)))
+-- The definition of a REDUCE element: its value outside combined with all contributions.
+abbrev pub reduced : Localities → ℕ → List (List Entry) → Store → ElementId → Option Entry
+reduced known line runs store x = with_operation (own_operation known x.variable) (value_at store x)
+  where
+    with_operation : Option ReduceOp → Option ℤ → Option Entry
+    with_operation (Some op) (Some value) = Some (Defines x (combined_with op (known.kind x.variable) value (contributed x runs)) line)
+    with_operation op value = None
 
--- The closing store: each element of the store that the iterations leave, in its state at the end.
-abbrev pub closing : (ℕ → Locality) → (ℕ → Kind) → List (List Entry) → Store → Store
-closing locality kind runs store = closing_over locality kind runs (elements_of store) store
+-- ---- contributions that pass to the loop around
+
+abbrev pub passed_on : Localities → Entry → Option Entry
+passed_on known (Contributes x op value) = if known.passed x.variable then Some (Contributes x op value) else None
+passed_on known entry = None
+
+-- ---- all changes, and the closing store
+
+-- The changes, as entries at the line of the header: what becomes undefined, what passes to the loop
+-- around, and the reductions, each in store order.
+abbrev pub changes : Localities → ℕ → List (List Entry) → Store → List Entry
+changes known line runs store =
+    map (λ x. Undefines x line) (forgotten known runs store)
+    ++ (flat_map (filter_map (passed_on known)) runs ++ filter_map (reduced known line runs store) (elements_of store))
+
+-- The closing store, of the one that the iterations leave.
+abbrev pub closing : Localities → ℕ → List (List Entry) → Store → Store
+closing known line runs store = store_after (changes known line runs store) store

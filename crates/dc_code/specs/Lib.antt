@@ -2,4 +2,11 @@ pub mod Breaks
 pub mod Closing
 pub mod Combinations
 pub mod Computation
+pub mod Inner
+pub mod Loops
+pub mod Orders
 pub mod Pairs
+pub mod Passages
+pub mod Troubles
+pub mod Verdicts
+pub mod Visits

@@ -2,4 +2,5 @@ pub mod Entries
 pub mod Kinds
 pub mod Operations
 pub mod Reductions
+pub mod Sorts
 pub mod Store

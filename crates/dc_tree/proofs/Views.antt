@@ -11,7 +11,7 @@ use Rattle.dc_tree.specs.declared.program.Node.{Node, Node-F, fold-roll-Node, Pl
 use Rattle.dc_tree.specs.declared.program.Node.TheVariants as nodes
 use Rattle.dc_tree.specs.declared.program.Part.{Part, roll-Part, fold-roll-Part}
 use Rattle.dc_tree.specs.Syntax.{Tree, number, truth, chars, name, refer, paren, unary, binary, args_from, tree, arg_tree, tree_step, arg_step}
-use Rattle.dc_tree.specs.Syntax.{Item, Items, plain, branch, select, loop, items_from, arms_from, item, items, part_items, item_step, items_step, part_step}
+use Rattle.dc_tree.specs.Blocks.{Line, Item, Items, plain, branch, select, loop, items_from, arms_from, line_of, item, items, part_items, item_step, items_step, part_step}
 
 pub tree-Number : (digits : List ℕ) (suffix : Suffix) → tree (Number digits suffix) ≡ number digits suffix
 tree-Number digits suffix = ap tree (sym (variants.rolls-Number digits suffix)) ∙ fold-roll-Expr Tree (Bool × Tree) tree_step arg_step (Expr-F.Number digits suffix)
@@ -45,24 +45,24 @@ arg_tree-Arg keyed value = fold-roll-Arg Tree (Bool × Tree) tree_step arg_step 
 pub ruleset expression_views = (tree-Number, tree-Truth, tree-Chars, tree-Name, tree-Refer, tree-Paren, tree-Unary, tree-Binary, arg_tree-Arg)
 
 pub items-Block : (inside : List Node) → items (roll-Block (record { nodes = inside })) ≡ items_from (map item inside)
-items-Block inside = fold-roll-Block Item Items (Lined × Items) item_step items_step part_step (record { nodes = inside })
+items-Block inside = fold-roll-Block Item Items (Line × Items) item_step items_step part_step (record { nodes = inside })
 
-pub item-Plain : (lined : Lined) → item (Plain lined) ≡ plain lined
-item-Plain lined = ap item (sym (nodes.rolls-Plain lined)) ∙ fold-roll-Node Item Items (Lined × Items) item_step items_step part_step (Node-F.Plain lined)
+pub item-Plain : (lined : Lined) → item (Plain lined) ≡ plain (line_of lined)
+item-Plain lined = ap item (sym (nodes.rolls-Plain lined)) ∙ fold-roll-Node Item Items (Line × Items) item_step items_step part_step (Node-F.Plain lined)
 
-pub item-If : (arms : List Part) (close : Lined) → item (If arms close) ≡ branch (arms_from (map part_items arms)) close
-item-If arms close = ap item (sym (nodes.rolls-If arms close)) ∙ fold-roll-Node Item Items (Lined × Items) item_step items_step part_step (Node-F.If arms close)
+pub item-If : (arms : List Part) (close : Lined) → item (If arms close) ≡ branch (arms_from (map part_items arms)) (line_of close)
+item-If arms close = ap item (sym (nodes.rolls-If arms close)) ∙ fold-roll-Node Item Items (Line × Items) item_step items_step part_step (Node-F.If arms close)
 
-pub item-Select : (head : Lined) (arms : List Part) (close : Lined) → item (Select head arms close) ≡ select head (arms_from (map part_items arms)) close
+pub item-Select : (head : Lined) (arms : List Part) (close : Lined) → item (Select head arms close) ≡ select (line_of head) (arms_from (map part_items arms)) (line_of close)
 item-Select head arms close =
-    ap item (sym (nodes.rolls-Select head arms close)) ∙ fold-roll-Node Item Items (Lined × Items) item_step items_step part_step (Node-F.Select head arms close)
+    ap item (sym (nodes.rolls-Select head arms close)) ∙ fold-roll-Node Item Items (Line × Items) item_step items_step part_step (Node-F.Select head arms close)
 
-pub item-Loop : (head : Lined) (body : Block) (close : Lined) → item (Loop head body close) ≡ loop head (items body) close
+pub item-Loop : (head : Lined) (body : Block) (close : Lined) → item (Loop head body close) ≡ loop (line_of head) (items body) (line_of close)
 item-Loop head body close =
-    ap item (sym (nodes.rolls-Loop head body close)) ∙ fold-roll-Node Item Items (Lined × Items) item_step items_step part_step (Node-F.Loop head body close)
+    ap item (sym (nodes.rolls-Loop head body close)) ∙ fold-roll-Node Item Items (Line × Items) item_step items_step part_step (Node-F.Loop head body close)
 
-pub part_items-Part : (head : Lined) (body : Block) → part_items (roll-Part (record { head = head; body = body })) ≡ (head, items body)
-part_items-Part head body = fold-roll-Part Item Items (Lined × Items) item_step items_step part_step (record { head = head; body = body })
+pub part_items-Part : (head : Lined) (body : Block) → part_items (roll-Part (record { head = head; body = body })) ≡ (line_of head, items body)
+part_items-Part head body = fold-roll-Part Item Items (Line × Items) item_step items_step part_step (record { head = head; body = body })
 
 -- all of them on statements
 pub ruleset statement_views = (items-Block, item-Plain, item-If, item-Select, item-Loop, part_items-Part)

@@ -1,7 +1,7 @@
 -- The ranks of the expression grammar, from the weakest operator to the strongest: `.eqv.` and
 -- `.neqv.`, `.or.`, `.and.`, `.not.`, the relations, `+` and `-`, `*` and `/`, `**`, and primaries.
 -- A sign has the rank of a sum. After ISO/IEC 1539-1:2023, clause 10.1.2.
-use Rattle.std.specs.Prelude.{◌≤◌, ◌+◌, ℕ, max, Bool, true, false, IsTrue, List, [], ◌∷◌, ◌++◌, codes}
+use Rattle.std.specs.Prelude.{◌≤◌, ◌+◌, ℕ, max, Bool, true, false, IsTrue, if◌then◌else◌, List, [], ◌∷◌, ◌++◌, codes}
 use Rattle.dc_tree.specs.declared.token.Mark.{Mark}
 use Rattle.dc_tree.specs.declared.token.Token.{Token}
 use Rattle.dc_tree.specs.Names.{is_name}
@@ -46,33 +46,26 @@ level Mark.Slash = 6
 level Mark.Power = 7
 level mark = 4
 
--- The least rank of its left operand: its own, so that equal ranks go from the left, but for the
--- relations, which don't chain, and for `**`, which goes from the right.
+-- the marks that compare two numbers
+abbrev pub is_relation : Mark → Bool
+is_relation Mark.Eq = true
+is_relation Mark.Ne = true
+is_relation Mark.Lt = true
+is_relation Mark.Le = true
+is_relation Mark.Gt = true
+is_relation Mark.Ge = true
+is_relation mark = false
+
+-- The least rank of its left operand: its own, so that operators of one rank go from the left. It is
+-- the next one for `**`, which goes from the right, and for a relation, since those don't chain.
 abbrev pub left_rank : Mark → ℕ
-left_rank Mark.Eqv = 0
-left_rank Mark.Neqv = 0
-left_rank Mark.Or = 1
-left_rank Mark.And = 2
-left_rank Mark.Plus = 5
-left_rank Mark.Minus = 5
-left_rank Mark.Times = 6
-left_rank Mark.Slash = 6
-left_rank Mark.Power = 8
-left_rank mark = 5
+left_rank Mark.Power = level Mark.Power + 1
+left_rank mark = if is_relation mark then level mark + 1 else level mark
 
 -- The least rank of its right operand.
 abbrev pub right_rank : Mark → ℕ
-right_rank Mark.Eqv = 1
-right_rank Mark.Neqv = 1
-right_rank Mark.Or = 2
-right_rank Mark.And = 3
-right_rank Mark.Not = 4
-right_rank Mark.Plus = 6
-right_rank Mark.Minus = 6
-right_rank Mark.Times = 7
-right_rank Mark.Slash = 7
-right_rank Mark.Power = 7
-right_rank mark = 5
+right_rank Mark.Power = level Mark.Power
+right_rank mark = level mark + 1
 
 -- The rank of a tree: a primary has the greatest.
 abbrev pub rank : Tree → ℕ

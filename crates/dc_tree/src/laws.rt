@@ -1,10 +1,23 @@
 //! Laws of the definitions, each the clause of a function that does nothing.
 
 ghost use Rattle.dc_tree.specs.Back.{IsToldApart};
+ghost use Rattle.dc_tree.specs.StatementsBack.{IsProgramToldApart, IsStatementToldApart};
 
 use crate::expr::Expr;
+use crate::program::Program;
+use crate::stmt::Stmt;
 
 /// Two expressions of the code that definitions see as one tree are one.
 pub fn trees_are_told_apart(a: &Expr, b: &Expr)
     ensures { IsToldApart a.now b.now }
+{}
+
+/// Two statements of the code that definitions see as one are one.
+pub fn statements_are_told_apart(a: &Stmt, b: &Stmt)
+    ensures { IsStatementToldApart a.now b.now }
+{}
+
+/// Two programs of the code that definitions see as one are one.
+pub fn programs_are_told_apart(a: &Program, b: &Program)
+    ensures { IsProgramToldApart a.now b.now }
 {}

@@ -1,7 +1,7 @@
 ghost use Rattle.std.specs.Prelude.{◌≡◌, ◌<◌, ◌++◌, ◌∷◌, [], length, None, OnOk, OnErr};
 ghost use Rattle.std.specs.Option.{option_copied};
 ghost use Rattle.dc_tree.specs.Symbols.{symbol_at};
-ghost use Rattle.dc_tree.specs.Places.{place_in, IsSameIndex, Adds};
+ghost use Rattle.dc_tree.specs.Places.{place_at, place_in, IsSameIndex, Adds};
 
 use crate::stmt::Intent;
 use dc_int::Kind;
@@ -94,6 +94,13 @@ impl Symbols {
     {
         let place = find(self.scopes.as_slice(), scope, name)?;
         self.symbols.get(place)
+    }
+
+    /// Where the symbol of a name stands in declared order, from 0.
+    pub fn place(&self, scope: u32, name: &[u8]) -> Option<usize>
+        ensures { result ≡ place_at self.now scope name.now }
+    {
+        find(self.scopes.as_slice(), scope, name)
     }
 
     /// Declares a name that its scope hasn't yet. A refused symbol is dropped.

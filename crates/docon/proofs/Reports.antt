@@ -3,13 +3,14 @@ use Rattle.std.proofs.Common.{◌≡◌, ℕ, ◌≤◌, true, leb, ◌&&◌, Li
 use Rattle.std.specs.Prelude.{IfOk, IfSome}
 use Rattle.std.specs.List.{list_all}
 use Rattle.std.proofs.lemmas.Bool.{and_parts, le-leb}
-use Rattle.dc_tree.specs.Syntax.{Tree, number, name, binary, tree, items}
+use Rattle.dc_tree.specs.Syntax.{Tree, number, name, binary, tree}
+use Rattle.dc_tree.specs.Blocks.{items}
 use Rattle.dc_tree.specs.declared.expr.Expr.{Expr}
 use Rattle.dc_tree.specs.declared.program.Program.{Program}
 use Rattle.dc_front.specs.FirstForm.{Spells, SpellsValue}
 use Rattle.dc_front.specs.Value.{is_digit, is_literal, Writes}
 use Rattle.dc_front.proofs.Forms.{readable_form}
-use Rattle.docon.specs.Meaning.{number_of}
+use Rattle.dc_tree.specs.Literals.{number_of}
 use Rattle.docon.specs.Parts.{Parts, parts_in, is_short, has_short_numbers}
 use Rattle.dc_text.specs.declared.memory.NoMemory.{NoMemory}
 use Rattle.docon.specs.declared.report.Report.{Report}

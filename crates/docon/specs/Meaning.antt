@@ -6,16 +6,9 @@ use Rattle.std.specs.Prelude.{◌≡◌, ℕ, ◌+◌, ◌-◌, ◌*◌, List, [
 use Rattle.std.specs.Fmt.{signed_decimal}
 use Rattle.std.specs.Int.{int_wrap, w32}
 use Rattle.std.specs.List.{range_with_len}
+use Rattle.dc_tree.specs.Literals.{number_of}
 use Rattle.dc_tree.specs.Syntax.{Tree, number, name, binary}
 use Rattle.dc_tree.specs.declared.token.Mark.{Mark}
-
--- the number that decimal digits write, behind a number that stands already
-abbrev pub number_from : ℕ → List ℕ → ℕ
-number_from n [] = n
-number_from n (digit ∷ digits) = number_from (n * 10 + (digit - 48)) digits
-
-abbrev pub number_of : List ℕ → ℕ
-number_of = number_from 0
 
 -- An operation in exact numbers. No other mark joins the operands of the form.
 abbrev pub exact : Mark → ℤ → ℤ → ℤ

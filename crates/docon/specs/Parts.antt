@@ -2,9 +2,9 @@
 -- the loop's one statement assigns.
 use Rattle.std.specs.Prelude.{ℕ, Bool, true, false, ◌&&◌, nat_le, List, [], ◌∷◌, length, Option, Some, None, option_and_then, option_map}
 use Rattle.std.specs.List.{list_all}
-use Rattle.dc_tree.specs.Syntax.{Tree, Items, number, name, binary, plain, loop, none, and_then, tree}
-use Rattle.dc_tree.specs.declared.stmt.Action.{Action}
-use Rattle.dc_tree.specs.declared.stmt.Stmt.{Stmt}
+use Rattle.dc_tree.specs.Syntax.{Tree, number, name, binary}
+use Rattle.dc_tree.specs.Statements.{Statement, concurrent, act, assign}
+use Rattle.dc_tree.specs.Blocks.{Items, plain, loop, none, and_then}
 use Rattle.dc_front.specs.Value.{is_digit}
 
 pub record Parts : Type 0 where
@@ -15,23 +15,23 @@ abbrev pub digits_in : Tree → Option (List ℕ)
 digits_in (number digits suffix) = Some digits
 digits_in other = None
 
-abbrev pub size_in : Stmt → Option (List ℕ)
-size_in (Stmt.Concurrent label spec (index ∷ []) mask locality) = digits_in (tree index.last)
+abbrev pub size_in : Statement → Option (List ℕ)
+size_in (concurrent label spec (index ∷ []) mask locality) = digits_in index.last
 size_in other = None
 
-abbrev pub value_in : Stmt → Option Tree
-value_in (Stmt.Act (Action.Assign left right)) = Some (tree right)
+abbrev pub value_in : Statement → Option Tree
+value_in (act (assign left right)) = Some right
 value_in other = None
 
 -- the one statement that a block holds
-abbrev pub only_in : Items → Option Stmt
-only_in (and_then (plain lined) none) = Some lined.stmt
+abbrev pub only_in : Items → Option Statement
+only_in (and_then (plain line) none) = Some line.says
 only_in other = None
 
 -- the head and the block of the loop that a block begins with
 abbrev pub parts_in : Items → Option Parts
 parts_in (and_then (loop head body close) rest) =
-    option_and_then (λ size. option_and_then (λ stmt. option_map (λ value. record { size = size; value = value }) (value_in stmt)) (only_in body)) (size_in head.stmt)
+    option_and_then (λ size. option_and_then (λ statement. option_map (λ value. record { size = size; value = value }) (value_in statement)) (only_in body)) (size_in head.says)
 parts_in other = None
 
 -- each number of an expression has 1 to 9 digits, so it is in the range of kind 4

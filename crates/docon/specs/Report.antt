@@ -7,7 +7,8 @@ use Rattle.dc_tree.specs.Syntax.{tree}
 use Rattle.dc_front.specs.FirstForm.{Spells}
 use Rattle.dc_outer.specs.Causes.{Rose}
 use Rattle.docon.specs.declared.report.Report.{Report}
-use Rattle.docon.specs.Meaning.{number_of, EndsWith, line_of}
+use Rattle.dc_tree.specs.Literals.{number_of}
+use Rattle.docon.specs.Meaning.{EndsWith, line_of}
 
 abbrev pub feed : List ℕ
 feed = 10 ∷ []

@@ -1,8 +1,10 @@
 -- What the runner found, and what it owes.
 use Rattle.std.specs.Prelude.{◌≡◌, ℕ, List, map, pos, Some, IsTrue}
-use Rattle.dc_tree.specs.Syntax.{tree, items}
+use Rattle.dc_tree.specs.Syntax.{tree}
+use Rattle.dc_tree.specs.Blocks.{items}
 use Rattle.dc_tree.specs.declared.program.Program.{Program}
-use Rattle.docon.specs.Meaning.{number_of, value, iterations, line_of}
+use Rattle.dc_tree.specs.Literals.{number_of}
+use Rattle.docon.specs.Meaning.{value, iterations, line_of}
 use Rattle.docon.specs.Parts.{Parts, parts_in, is_short, has_short_numbers}
 use Rattle.docon.specs.declared.parts.Found.{Found}
 

@@ -1,6 +1,8 @@
 ghost use Rattle.std.specs.Prelude.{◌≡◌, option_map};
 ghost use Rattle.std.specs.Option.{option_copied};
-ghost use Rattle.dc_tree.specs.Syntax.{tree, items};
+ghost use Rattle.dc_tree.specs.Syntax.{tree};
+ghost use Rattle.dc_tree.specs.Statements.{statement};
+ghost use Rattle.dc_tree.specs.Blocks.{items};
 ghost use Rattle.docon.specs.Parts.{digits_in, size_in, value_in, only_in, parts_in};
 ghost use Rattle.docon.specs.Running.{parts_of};
 
@@ -24,7 +26,7 @@ fn digits_in(expr: &Expr) -> Option<&DcText>
 }
 
 fn size_in(stmt: &Stmt) -> Option<&DcText>
-    ensures { option_copied result ≡ size_in stmt.now }
+    ensures { option_copied result ≡ size_in (statement stmt.now) }
 {
     let Stmt::Concurrent { indexes, .. } = stmt else {
         return None;
@@ -36,7 +38,7 @@ fn size_in(stmt: &Stmt) -> Option<&DcText>
 }
 
 fn value_in(stmt: &Stmt) -> Option<&Expr>
-    ensures { option_map (λ e. tree e.now) result ≡ value_in stmt.now }
+    ensures { option_map (λ e. tree e.now) result ≡ value_in (statement stmt.now) }
 {
     match stmt {
         Stmt::Act(Action::Assign { right, .. }) => Some(right),
@@ -45,7 +47,7 @@ fn value_in(stmt: &Stmt) -> Option<&Expr>
 }
 
 fn only_in(block: &Block) -> Option<&Stmt>
-    ensures { option_copied result ≡ only_in (items block.now) }
+    ensures { option_map (λ s. statement s.now) result ≡ only_in (items block.now) }
 {
     match block.nodes.as_slice() {
         [Node::Plain(lined)] => Some(&lined.stmt),

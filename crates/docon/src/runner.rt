@@ -2,7 +2,8 @@ ghost use Rattle.std.specs.Prelude.{◌≡◌, ◌++◌, ◌<◌, ◌≤◌, map
 ghost use Rattle.std.specs.List.{range_with_len};
 ghost use Rattle.dc_tree.specs.Syntax.{tree};
 ghost use Rattle.std.specs.Int.{int_wrap, w32};
-ghost use Rattle.docon.specs.Meaning.{number_of, exact, value, iterations, line_of};
+ghost use Rattle.docon.specs.Meaning.{exact, value, iterations, line_of};
+ghost use Rattle.dc_tree.specs.Literals.{number_of};
 ghost use Rattle.docon.specs.Parts.{is_short, has_short_numbers};
 
 use dc_text::{DcList, DcText, NoMemory};

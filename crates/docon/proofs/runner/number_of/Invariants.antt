@@ -1,5 +1,5 @@
 use Rattle.std.proofs.Common.{◌≡◌, ◌<◌, ◌^◌, drop}
-use Rattle.docon.specs.Meaning.{number_from, number_of}
+use Rattle.dc_tree.specs.Literals.{number_from, number_of}
 use Rattle.docon.proofs.runner.number_of.Given as goal
 
 abbrev pub invariant-loop-digit : goal.invariant-loop-digit

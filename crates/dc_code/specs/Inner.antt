@@ -1,0 +1,120 @@
+-- A loop inside the block of another, under a rule. This project's own, on ISO/IEC 1539-1:2023, clause
+-- 11.1.7.4.
+use Rattle.std.specs.Prelude.{ℕ, zero, suc, ◌-◌, Bool, false, List, [], ◌∷◌, ◌++◌, map, filter, flat_map, length, drop, slice_get, Option, Some, None, is_none, if◌then◌else◌, ℤ, pos}
+use Rattle.dc_int.specs.Entries.{Entry, Reads, Defines, firsts, exposes, last_states, settling, state_after, store_after}
+use Rattle.dc_int.specs.Store.{Store, value_at}
+use Rattle.dc_code.specs.Closing.{changes}
+use Rattle.dc_code.specs.Computation.{Run, Reached, done, bad, paused, over}
+use Rattle.dc_code.specs.Loops.{Form, Opened, opened, Orders, Passage, Parts, alone, Ordered, order}
+use Rattle.dc_code.specs.Orders.{as_ordered, turned}
+use Rattle.dc_code.specs.Passages.{Entering, ended_well, ended_badly, behind, through}
+use Rattle.dc_code.specs.Troubles.{Trouble, Slots, Event, inside}
+use Rattle.dc_code.specs.Verdicts.{verdict, trouble_in}
+
+-- How loops are run: judged, or in the order of a number and not judged.
+pub data Rule : Type 0 where
+  judging : Rule
+  in_order : ℕ → Rule
+
+-- ---- what iterations of a loop inside are to the block around
+
+-- An entry of a first access as the block around makes it: a definition has the value of the last state,
+-- or 0 where that is undefined.
+abbrev pub value_or_zero : Option ℤ → ℤ
+value_or_zero None = pos 0
+value_or_zero (Some value) = value
+
+abbrev pub seen_around : List Entry → Entry → Entry
+seen_around run (Defines x value line) = Defines x (value_or_zero (state_after x run None)) line
+seen_around run entry = entry
+
+abbrev pub is_exposed_read : List Entry → Entry → Bool
+is_exposed_read run (Reads x line) = exposes x run
+is_exposed_read run entry = false
+
+-- the first accesses of an iteration that are exposed reads
+abbrev pub exposed_firsts : List Entry → List Entry
+exposed_firsts run = filter (is_exposed_read run) (firsts run)
+
+-- the first accesses, and then the last states at the line of the header
+abbrev pub firsts_and_lasts : ℕ → List Entry → List Entry
+firsts_and_lasts line run = map (seen_around run) (firsts run) ++ map (settling line) (last_states run)
+
+-- What the block around adds for iterations: the exposed reads of all of them, and then what each did.
+abbrev pub added : ℕ → List (List Entry) → List Entry
+added line runs = flat_map exposed_firsts runs ++ flat_map (firsts_and_lasts line) runs
+
+-- ---- a loop inside the block of another
+
+-- The iterations up to and including the first that doesn't end well, each by its entries.
+abbrev pub up_to_bad : List Passage → List (List Entry)
+up_to_bad [] = []
+up_to_bad (passage ∷ passages) = passage.entries ∷ (if is_none passage.trouble then up_to_bad passages else [])
+
+abbrev pub by_entries : Store → List Entry → ℕ → Orders → Option Trouble → Passage
+by_entries store entries turns orders trouble =
+    record { entries = entries; store = store_after entries store; turns = turns; orders = orders; trouble = trouble }
+
+-- A loop that the verdict ends: the block around makes the entries of the iterations taken alone.
+abbrev pub stopped : Parts → Store → Orders → List (List ℤ) → Trouble → Passage
+stopped parts store orders iterations trouble =
+    by_entries store (added parts.form.line (up_to_bad (map (alone parts store) iterations))) 0 orders (Some trouble)
+
+-- A loop that goes on, by its iterations in an order: their entries, and the changes at its end.
+abbrev pub gone_on : Parts → Store → ℕ → Ordered → Passage
+gone_on parts store turns ordered =
+    let line = parts.form.line in
+    by_entries store (added line ordered.runs ++ changes parts.form.known line ordered.runs ordered.store) turns ordered.orders None
+
+-- A loop that isn't judged, by its iterations in an order.
+abbrev pub unjudged : Parts → Store → ℕ → List (List ℤ) → Ordered → Passage
+unjudged parts store turns iterations ordered = by ordered.trouble (slice_get iterations (length ordered.runs - 1))
+  where
+    by : Option Trouble → Option (List ℤ) → Passage
+    by (Some trouble) (Some at) = by_entries store (added parts.form.line ordered.runs) 0 ordered.orders (Some (inside at trouble))
+    by trouble at = gone_on parts store turns ordered
+
+-- A loop that is judged: the trouble that the verdict tells of, or the iterations in the first of the
+-- orders.
+abbrev pub told_by : Parts → Store → Orders → Opened → Option Trouble → Passage
+told_by parts store orders opening (Some trouble) = stopped parts store orders opening.iterations trouble
+told_by parts store orders opening None = gone_on parts store opening.turns (order parts (drop 1 orders) store (as_ordered orders opening.iterations))
+
+abbrev pub behind_header : Rule → Parts → Store → Orders → Opened → Passage
+behind_header judging parts store orders opening = told_by parts store orders opening (trouble_in (verdict parts store opening.iterations))
+behind_header (in_order number) parts store orders opening =
+    let iterations = turned number opening.iterations in
+    unjudged parts store opening.turns iterations (order parts orders store iterations)
+
+-- A loop inside, with the turns of the block around and the orders that are left.
+abbrev pub inner : Rule → Parts → ℕ → Store → Orders → Passage
+inner rule parts turns store orders = by (over store (opened parts.form turns))
+  where
+    by_reached : List Entry → Store → Reached Event Trouble Opened → Passage
+    by_reached entries after (done opening) = behind entries (behind_header rule parts after orders opening)
+    by_reached entries after (bad trouble) = behind entries (ended_badly after orders trouble)
+    by_reached entries after (paused event rest) = behind entries (ended_well after turns orders)
+
+    by : Run Event Trouble Opened → Passage
+    by run = by_reached run.entries run.store run.reached
+
+-- ---- the loops of a program
+
+-- What the trees or the code of a program give for each of its loops, by its number and the entities
+-- around it.
+abbrev pub Forms : Type 0
+Forms = ℕ → Slots → Form
+
+-- The block of a loop, where loops inside are run so.
+abbrev pub parts_with : Entering → Form → Parts
+parts_with enter form = record { form = form; block = λ store orders at. through enter store orders (form.block (map (value_at store) form.copied) at) }
+
+-- A loop with those inside it, to so many levels.
+abbrev pub parts : Rule → Forms → ℕ → ℕ → Slots → Parts
+parts rule forms zero number slots = parts_with (λ inside turns around store orders. ended_well store turns orders) (forms number slots)
+parts rule forms (suc depth) number slots =
+    parts_with (λ inside turns around store orders. inner rule (parts rule forms depth inside around) turns store orders) (forms number slots)
+
+-- No program has more levels.
+abbrev pub greatest_depth : ℕ
+greatest_depth = 64

@@ -1,0 +1,146 @@
+-- A loop: its header, an iteration alone, and iterations in an order over one store. After ISO/IEC
+-- 1539-1:2023, clause 11.1.7.4; the turns, the order of the header and the limit are this project's own.
+use Rattle.std.specs.Prelude.{ℕ, ◌*◌, Bool, true, false, nat_lt, List, [], ◌∷◌, Option, None, is_some, is_none, if◌then◌else◌, ℤ}
+use Rattle.dc_int.specs.declared.access.ElementId.{ElementId}
+use Rattle.dc_int.specs.declared.fault.FaultKind.{FaultKind}
+use Rattle.dc_int.specs.declared.fault.Why.{Why}
+use Rattle.dc_int.specs.Entries.{Entry}
+use Rattle.dc_int.specs.Store.{Store}
+use Rattle.dc_code.specs.Closing.{Localities, closing}
+use Rattle.dc_code.specs.Combinations.{Span, value_count, combinations}
+use Rattle.dc_code.specs.Computation.{Computation, give, fail, read, define, undefine, contribute, ask, pause, ◌>>=◌}
+use Rattle.dc_code.specs.Troubles.{Trouble, Computing, Event, ended, in_statement, in_mask}
+
+-- What the states of the elements are that LOCAL_INIT entities take from the store.
+abbrev pub Copies : Type 0
+Copies = List (Option ℤ)
+
+-- A loop as its source or its code gives it, where it is reached. Masks and blocks have turns of their
+-- own; the header spends those that it is given, and gives what it leaves, as a block does.
+pub record Form : Type 0 where
+  pub line : ℕ
+  pub known : Localities
+  -- the elements that LOCAL_INIT entities copy, and the elements of its own reductions, in store order
+  pub copied : List ElementId
+  pub combines : List ElementId
+  pub header : ℕ → Computing (List Span × ℕ)
+  pub mask : List ℤ → Computing Bool
+  pub block : Copies → List ℤ → Computing ℕ
+
+-- ---- the header
+
+-- The same computation, whose failures are told otherwise.
+abbrev pub retold : {E T U A : Type 0} → (T → U) → Computation E T A → Computation E U A
+retold tell (give a) = give a
+retold tell (fail trouble) = fail (tell trouble)
+retold tell (read x line rest) = read x line (λ state. retold tell (rest state))
+retold tell (define x value line rest) = define x value line (retold tell rest)
+retold tell (undefine x line rest) = undefine x line (retold tell rest)
+retold tell (contribute x op value rest) = contribute x op value (retold tell rest)
+retold tell (ask variable rest) = ask variable (λ bounds. retold tell (rest bounds))
+retold tell (pause event rest) = pause event (λ told. retold tell (rest told))
+
+-- What the header of a loop does.
+abbrev pub Opening : Type 0 → Type 0
+Opening A = Computation Event Trouble A
+
+abbrev pub combination_count : List Span → ℕ
+combination_count [] = 1
+combination_count (span ∷ spans) = value_count span * combination_count spans
+
+abbrev pub greatest_count : ℕ
+greatest_count = 4194304
+
+-- The combinations, unless there are too many.
+abbrev pub combined_values : ℕ → List Span → Opening (List (List ℤ))
+combined_values line spans =
+    if nat_lt greatest_count (combination_count spans) then fail (ended (Why.Fault FaultKind.TooManyIterations) line []) else give (combinations spans)
+
+-- Those of the combinations for which the mask is true.
+abbrev pub active : (List ℤ → Computing Bool) → List (List ℤ) → Opening (List (List ℤ))
+active mask [] = give []
+active mask (at ∷ rest) = do
+  holds ← retold (in_mask at) (mask at)
+  others ← active mask rest
+  give (if holds then at ∷ others else others)
+
+-- A read of each element, without a fault; it gives whether all of them are defined.
+abbrev pub read_all : ℕ → List ElementId → Opening Bool
+read_all line [] = give true
+read_all line (x ∷ elements) = read x line (λ state. read_all line elements >>= (λ others. give (if is_some state then others else false)))
+
+-- Where there is an iteration, the elements that its entities begin with are read, and each element of
+-- a reduction has to be defined.
+abbrev pub begun : Form → List (List ℤ) → Opening Unit
+begun form [] = give tt
+begun form iterations = do
+  copied ← read_all form.line form.copied
+  defined ← read_all form.line form.combines
+  if defined then give tt else fail (ended (Why.Fault FaultKind.Undefined) form.line [])
+
+-- The iterations, each by the values of its indexes, and the turns left.
+pub record Opened : Type 0 where
+  pub iterations : List (List ℤ)
+  pub turns : ℕ
+
+-- The header: the limits and steps, the number of combinations, the mask of each, and the reductions.
+abbrev pub opened : Form → ℕ → Opening Opened
+opened form turns = do
+  (spans, left) ← retold in_statement (form.header turns)
+  values ← combined_values form.line spans
+  iterations ← active form.mask values
+  ready ← begun form iterations
+  give (record { iterations = iterations; turns = left })
+
+-- ---- iterations
+
+-- Orders for loops inside, one for each loop that is reached, as numbers of its iterations.
+abbrev pub Orders : Type 0
+Orders = List (List ℕ)
+
+-- What an iteration does, or a loop inside one: its entries, the store after, the turns and the orders
+-- that it leaves, and its trouble where it doesn't end well.
+pub record Passage : Type 0 where
+  pub entries : List Entry
+  pub store : Store
+  pub turns : ℕ
+  pub orders : Orders
+  pub trouble : Option Trouble
+
+-- A loop whose block runs over a store, with orders for the loops inside.
+pub record Parts : Type 0 where
+  pub form : Form
+  pub block : Store → Orders → List ℤ → Passage
+
+-- An iteration alone: over the opening store, with fresh entities.
+abbrev pub alone : Parts → Store → List ℤ → Passage
+alone parts store at = parts.block store [] at
+
+-- What the iterations of an order did, each by its entries, with the store and the orders after. The last
+-- one may have met trouble.
+pub record Ordered : Type 0 where
+  pub runs : List (List Entry)
+  pub store : Store
+  pub orders : Orders
+  pub trouble : Option Trouble
+
+abbrev pub joined : Passage → Ordered → Ordered
+joined passage later = record { runs = passage.entries ∷ later.runs; store = later.store; orders = later.orders; trouble = later.trouble }
+
+abbrev pub nothing_done : Store → Orders → Option Trouble → Ordered
+nothing_done store orders trouble = record { runs = []; store = store; orders = orders; trouble = trouble }
+
+-- the rest of an order behind an iteration that ended well
+abbrev pub behind_one : Passage → (Orders → Store → Ordered) → Ordered
+behind_one passage rest =
+    joined passage (if is_none passage.trouble then rest passage.orders passage.store else nothing_done passage.store passage.orders passage.trouble)
+
+-- Iterations in an order: one after the other over one store, each with fresh entities, up to the first
+-- that doesn't end well.
+abbrev pub order : Parts → Orders → Store → List (List ℤ) → Ordered
+order parts orders store [] = nothing_done store orders None
+order parts orders store (at ∷ rest) = behind_one (parts.block store orders at) (λ left after. order parts left after rest)
+
+-- The store with which a loop ends after an order in which all iterations ended well.
+abbrev pub closed : Parts → Ordered → Store
+closed parts ordered = closing parts.form.known parts.form.line ordered.runs ordered.store

@@ -1,0 +1,112 @@
+-- The verdict on a loop: the first of these that applies. The header's trouble; the trouble of the least
+-- iteration that, alone, doesn't end well; a race; or that the loop goes on. This project's own, on the
+-- restrictions of ISO/IEC 1539-1:2023, clause 11.1.7.5.
+use Rattle.std.specs.Prelude.{ℕ, List, [], ◌∷◌, map, slice_get, Option, Some, None, option_and_then, ℤ}
+use Rattle.dc_int.specs.declared.access.Access.{Access}
+use Rattle.dc_int.specs.declared.fault.Why.{Why}
+use Rattle.dc_int.specs.declared.variable.Locality.{Locality}
+use Rattle.dc_int.specs.Entries.{Entry, access_of}
+use Rattle.dc_int.specs.Store.{Store}
+use Rattle.dc_code.specs.declared.verdict.Party.{Party}
+use Rattle.dc_code.specs.declared.verdict.Race.{Race}
+use Rattle.dc_code.specs.declared.verdict.Verdict as answers
+use Rattle.dc_code.specs.Breaks.{first_break, named_beside}
+use Rattle.dc_code.specs.Loops.{Parts, Passage, alone, order}
+use Rattle.dc_code.specs.Pairs.{first_clash, pair}
+use Rattle.dc_code.specs.Troubles.{Trouble, Side, ended, masked, raced, inside}
+
+pub data Verdict : Type 0 where
+  go_on : Verdict
+  at_header : Trouble → Verdict
+  in_iteration : Trouble → List ℤ → Verdict
+  race : Race → List ℤ → List ℤ → Verdict
+
+-- What an option holds is handed on, for `do` blocks.
+infixl 20 ◌>>=◌
+abbrev ◌>>=◌ : {A B : Type 0} → Option A → (A → Option B) → Option B
+option >>= next = option_and_then next option
+
+-- ---- the least iteration that doesn't end well
+
+abbrev pub or_later : List ℤ → Option Trouble → Option Verdict → Option Verdict
+or_later at (Some trouble) later = Some (in_iteration trouble at)
+or_later at None later = later
+
+abbrev pub bad_iteration : List (List ℤ) → List Passage → Option Verdict
+bad_iteration (at ∷ rest) (passage ∷ passages) = or_later at passage.trouble (bad_iteration rest passages)
+bad_iteration iterations passages = None
+
+-- ---- the race
+
+abbrev pub party : ℕ → Access → Party
+party iteration access = record { iteration = iteration; action = access.action; line = access.line }
+
+-- The race of the iterations i and j, by what they did in succession: the first break, and the access
+-- that is named beside it.
+abbrev pub race_of : (ℕ → Locality) → ℕ → ℕ → List Entry → List Entry → Option Race
+race_of locality i j first second = do
+  breaking ← first_break locality first second
+  beside ← named_beside locality first breaking
+  access ← access_of breaking
+  other ← access_of beside
+  Some (record { element = access.element; first = party i other; second = party j access })
+
+abbrev pub race_in : (ℕ → Locality) → ℕ → ℕ → List (List Entry) → Option Race
+race_in locality i j (first ∷ second ∷ []) = race_of locality i j first second
+race_in locality i j runs = None
+
+-- The race of a pair (i, j), which is run again, i and then j, over one store.
+abbrev pub race_between : Parts → Store → List (List ℤ) → ℕ × ℕ → Option Verdict
+race_between parts store iterations (i, j) = do
+  first ← slice_get iterations i
+  second ← slice_get iterations j
+  found ← race_in parts.form.known.locality i j (order parts [] store (first ∷ second ∷ [])).runs
+  Some (race found first second)
+
+-- The race that the least clashing element names, if one clashes.
+abbrev pub race_among : Parts → Store → List (List ℤ) → List (List Entry) → Option Verdict
+race_among parts store iterations runs = do
+  x ← first_clash parts.form.known.locality store runs
+  named ← pair (parts.form.known.locality x.variable) x runs
+  race_between parts store iterations named
+
+-- ---- the verdict
+
+abbrev pub first_of : Option Verdict → Option Verdict → Verdict
+first_of (Some verdict) other = verdict
+first_of None (Some verdict) = verdict
+first_of None None = go_on
+
+-- The verdict by what each iteration does alone.
+abbrev pub judged : Parts → Store → List (List ℤ) → List Passage → Verdict
+judged parts store iterations passages =
+    first_of (bad_iteration iterations passages) (race_among parts store iterations (map (λ passage. passage.entries) passages))
+
+-- The verdict on these iterations, over the store with which the loop is reached.
+abbrev pub verdict : Parts → Store → List (List ℤ) → Verdict
+verdict parts store iterations = judged parts store iterations (map (alone parts store) iterations)
+
+-- ---- as trouble
+
+abbrev pub side : Party → List ℤ → Side
+side party at = record { at = at; action = party.action; line = party.line }
+
+-- The trouble that a verdict tells of, as it is seen from outside the loop.
+abbrev pub trouble_in : Verdict → Option Trouble
+trouble_in go_on = None
+trouble_in (at_header trouble) = Some trouble
+trouble_in (in_iteration trouble at) = Some (inside at trouble)
+trouble_in (race found first second) = Some (raced found.element (side found.first first) (side found.second second) [])
+
+-- ---- as the code answers it
+
+abbrev pub header_trouble : Why → ℕ → Option (List ℤ) → Trouble
+header_trouble why line None = ended why line []
+header_trouble why line (Some mask) = masked why line [] mask
+
+abbrev pub seen : answers.Verdict → Verdict
+seen answers.Verdict.GoOn = go_on
+seen (answers.Verdict.HeaderFault why line mask) = at_header (header_trouble why line mask)
+seen (answers.Verdict.IterFault why line at) = in_iteration (ended (Why.Fault why) line []) at
+seen (answers.Verdict.IterSpent line at) = in_iteration (ended Why.Spent line []) at
+seen (answers.Verdict.Race found first_at second_at) = race found first_at second_at

@@ -1,0 +1,10 @@
+pub mod Actions
+pub mod Acts
+pub mod Calls
+pub mod Concurrent
+pub mod Execution
+pub mod Headers
+pub mod Numbering
+pub mod Places
+pub mod Programs
+pub mod Values

@@ -1,0 +1,59 @@
+-- A whole program: what its main program does, its loops, and the store with which it begins. After ISO/IEC
+-- 1539-1:2023, clauses 8.4 and 14.1.
+use Rattle.std.specs.Prelude.{ℕ, suc, List, [], ◌∷◌, map, filter_map, Option, Some, None, ℤ}
+use Rattle.dc_int.specs.Sorts.{sort_with}
+use Rattle.dc_int.specs.Store.{Bounds, Variable, Store}
+use Rattle.dc_code.specs.Inner.{Forms}
+use Rattle.dc_code.specs.Troubles.{Computing}
+use Rattle.dc_tree.specs.declared.symbols.Role as roles
+use Rattle.dc_tree.specs.declared.symbols.Symbol.{Symbol}
+use Rattle.dc_tree.specs.Blocks.{Source}
+use Rattle.dc_tree.specs.Entities.{symbols_in, main_scope}
+use Rattle.dc_meaning.specs.Calls.{callee, greatest_call_depth, procedures_from, undefined_cells}
+use Rattle.dc_meaning.specs.Concurrent.{Outside, Surroundings}
+use Rattle.dc_meaning.specs.Execution.{exec_all}
+use Rattle.dc_meaning.specs.Headers.{inside_frame}
+use Rattle.dc_meaning.specs.Numbering.{loops_of_all, forms_of}
+
+-- The outside variables in declared order, from a number on.
+abbrev pub outsides_from : ℕ → List Symbol → List Outside
+outsides_from number [] = []
+outsides_from number (symbol ∷ rest) = by symbol.role (outsides_from (suc number) rest) (outsides_from number rest)
+  where
+    by : roles.Role → List Outside → List Outside → List Outside
+    by (roles.Role.Variable logical kind bounds initial) behind others =
+        record { name = symbol.name; number = number; sort = sort_with logical kind; bounds = bounds } ∷ behind
+    by role behind others = others
+
+-- The initial cells of a variable: undefined where no initial values are given.
+abbrev pub first_cells : Bounds → List ℤ → List (Option ℤ)
+first_cells bounds [] = undefined_cells bounds
+first_cells bounds given = map (λ z. Some z) given
+
+abbrev pub first_variable : Symbol → Option Variable
+first_variable symbol = by symbol.role
+  where
+    by : roles.Role → Option Variable
+    by (roles.Role.Variable logical kind bounds initial) = Some (record { bounds = Some bounds; cells = first_cells bounds initial })
+    by role = None
+
+-- The store of the initial values.
+abbrev pub first_store : List Symbol → Store
+first_store symbols = filter_map first_variable (symbols_in 0 symbols)
+
+abbrev pub surroundings : List Symbol → Source → ℕ → Surroundings
+surroundings symbols source turns = record {
+  outsides = outsides_from 0 (symbols_in 0 symbols);
+  call = callee (procedures_from symbols 1 source.procedures) greatest_call_depth;
+  turns = turns;
+}
+
+-- The main program, with so many turns.
+abbrev pub main_computation : List Symbol → Source → ℕ → Computing Unit
+main_computation symbols source turns =
+    inside_frame [] turns (exec_all (main_scope symbols) (surroundings symbols source turns).call 0 source.body) (λ flow left. tt)
+
+-- Its loops, where each mask and each iteration has so many turns.
+abbrev pub program_forms : List Symbol → Source → ℕ → Forms
+program_forms symbols source turns =
+    let within = surroundings symbols source turns in forms_of within (loops_of_all within (main_scope symbols) 0 source.body)

@@ -1,0 +1,3 @@
+mod ReportLineExamples
+mod Rows
+pub mod Subscripts
