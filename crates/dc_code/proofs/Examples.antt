@@ -11,7 +11,7 @@ use Rattle.dc_int.specs.Store.{Store, cell_of, value_at, put_at}
 use Rattle.dc_code.specs.Breaks.{breaks, first_break, named_beside}
 use Rattle.dc_code.specs.Combinations.{values_of, combinations}
 use Rattle.dc_code.specs.Pairs.{clashes, first_clash, pair}
-use Rattle.dc_code.specs.Closing.{Localities, closing}
+use Rattle.dc_code.specs.Closing.{Localities, changes, closing}
 
 -- ---- combinations
 
@@ -131,3 +131,7 @@ summed
     ≡ record { bounds = Some ((pos 1, pos 3) ∷ []); cells = Some (pos 5) ∷ Some (pos 6) ∷ Some (pos 7) ∷ [] } ∷ record { bounds = Some []; cells = Some (pos 13) ∷ [] } ∷ []
 unfolding put_at value_at cell_of int_wrap
 summed = refl
+
+-- without an iteration nothing is defined
+nothing_summed : changes (all_of_kind_4 sums) 3 [] small ≡ []
+nothing_summed = refl

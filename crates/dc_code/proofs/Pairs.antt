@@ -111,23 +111,23 @@ clash-found locality x (run ∷ runs) clash = by_first (list_any (breaks localit
 
 -- ---- of booleans, numbers and entries
 
-or-either : (a b : Bool) → (a || b) ≡ true → (a ≡ true) ⊎ (b ≡ true)
+pub or-either : (a b : Bool) → (a || b) ≡ true → (a ≡ true) ⊎ (b ≡ true)
 or-either true b either = inl refl
 or-either false b either = inr either
 
-and-both : (a b : Bool) → (a && b) ≡ true → (a ≡ true) × (b ≡ true)
+pub and-both : (a b : Bool) → (a && b) ≡ true → (a ≡ true) × (b ≡ true)
 and-both true b both = (refl, both)
 and-both false b both = absurd (false≢true both)
 
-and-true : (a b : Bool) → a ≡ true → b ≡ true → (a && b) ≡ true
+pub and-true : (a b : Bool) → a ≡ true → b ≡ true → (a && b) ≡ true
 and-true true b a_is b_is = b_is
 and-true false b a_is b_is = absurd (false≢true a_is)
 
-or-left : (a b : Bool) → a ≡ true → (a || b) ≡ true
+pub or-left : (a b : Bool) → a ≡ true → (a || b) ≡ true
 or-left true b a_is = refl
 or-left false b a_is = absurd (false≢true a_is)
 
-or-right : (a b : Bool) → b ≡ true → (a || b) ≡ true
+pub or-right : (a b : Bool) → b ≡ true → (a || b) ≡ true
 or-right true b b_is = refl
 or-right false b b_is = b_is
 
@@ -138,7 +138,7 @@ same-differs (suc m) zero apart = λ equal. omega arith
 same-differs (suc m) (suc n) apart = λ equal. same-differs m n apart (omega arith)
 
 -- An exposed read is a read.
-exposed-is_read : (x : ElementId) (entries : List Entry) → exposes x entries ≡ true → reads x entries ≡ true
+pub exposed-is_read : (x : ElementId) (entries : List Entry) → exposes x entries ≡ true → reads x entries ≡ true
 exposed-is_read x [] exposed = exposed
 exposed-is_read x (entry ∷ entries) exposed = by_read (is_read_of x entry) (is_touch_of x entry) exposed (exposed-is_read x entries)
   where

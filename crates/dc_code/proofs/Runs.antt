@@ -66,7 +66,7 @@ same-replaced state None (Some old) e = cc
 same-replaced state (Some old) None e = cc
 same-replaced state (Some old) (Some other) e = refl
 
-value-cell : (store : Store) (x : ElementId) → value_at store x ≡ number_in (cell_of store x)
+pub value-cell : (store : Store) (x : ElementId) → value_at store x ≡ number_in (cell_of store x)
 unfolding value_at
 value-cell store x = refl
 

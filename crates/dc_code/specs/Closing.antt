@@ -63,6 +63,11 @@ reduced known line runs store x = with_operation (own_operation known x.variable
     with_operation (Some op) (Some value) = Some (Defines x (combined_with op (known.kind x.variable) value (contributed x runs)) line)
     with_operation op value = None
 
+-- The definitions of the elements of reductions, in store order, where there was an iteration.
+abbrev pub reductions : Localities → ℕ → List (List Entry) → Store → List Entry
+reductions known line [] store = []
+reductions known line runs store = filter_map (reduced known line runs store) (elements_of store)
+
 -- ---- contributions that pass to the loop around
 
 abbrev pub passed_on : Localities → Entry → Option Entry
@@ -76,7 +81,7 @@ passed_on known entry = None
 abbrev pub changes : Localities → ℕ → List (List Entry) → Store → List Entry
 changes known line runs store =
     map (λ x. Undefines x line) (forgotten known runs store)
-    ++ (flat_map (filter_map (passed_on known)) runs ++ filter_map (reduced known line runs store) (elements_of store))
+    ++ (flat_map (filter_map (passed_on known)) runs ++ reductions known line runs store)
 
 -- The closing store, of the one that the iterations leave.
 abbrev pub closing : Localities → ℕ → List (List Entry) → Store → Store

@@ -3,6 +3,7 @@ pub mod Closing
 pub mod Combinations
 pub mod Computation
 pub mod Inner
+pub mod Laws
 pub mod Loops
 pub mod Orders
 pub mod Pairs

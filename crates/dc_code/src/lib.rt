@@ -3,10 +3,16 @@
 #![tactic(auto)]
 
 mod law;
+mod loop_law;
 mod verdict;
 
 pub use law::{
     a_run_is_its_entries, agreeing_stores_run_alike, first_this_then_that, named_pair_breaks,
     runs_differ_first_at_a_read, untouched_elements_stay,
+};
+pub use loop_law::{
+    a_bad_iteration_ends_its_orders, a_clash_is_a_race,
+    a_loop_that_goes_on_ends_alike_in_every_order, a_race_is_in_its_orders,
+    plain_blocks_are_framed,
 };
 pub use verdict::{Party, Race, Verdict};

@@ -1,5 +1,7 @@
+pub mod Elements
 pub mod Examples
 pub mod Powers
 pub mod Reductions
 pub mod Stores
+pub mod Threes
 pub mod Wraps

@@ -76,7 +76,7 @@ same-is zero (suc n) e = cc
 same-is (suc m) zero e = cc
 same-is (suc m) (suc n) e = ap suc (same-is m n e)
 
-same-itself : (n : ℕ) → same n n ≡ true
+pub same-itself : (n : ℕ) → same n n ≡ true
 same-itself zero = refl
 same-itself (suc n) = same-itself n
 

@@ -1,0 +1,97 @@
+-- A loop that goes on ends alike in every order of its iterations.
+use Rattle.std.proofs.Common.{◌≡◌, ℕ, Bool, true, false, ◌||◌, List, [], ◌∷◌, map, All, Some, None, refl, sym, ap, ◌∙◌}
+use Rattle.std.proofs.lemmas.Bool.{false≢true}
+use Rattle.std.proofs.lemmas.List.Elements.{All-nil, All-cons}
+use Rattle.std.proofs.lemmas.List.Sorted.{All-permutation, IsPermutation-map}
+use Rattle.std.proofs.lemmas.Option.{none-some}
+use Rattle.std.specs.Prelude.{ℤ, is_some, find, if◌then◌else◌}
+use Rattle.std.specs.List.{list_any}
+use Rattle.std.specs.List.Sorted.{IsPermutation}
+use Rattle.dc_int.specs.declared.access.ElementId.{ElementId}
+use Rattle.dc_int.specs.declared.variable.Locality.{Locality}
+use Rattle.dc_int.specs.Entries.{touches}
+use Rattle.dc_int.specs.Store.{Store, cell_of, same_element, elements_of}
+use Rattle.dc_int.proofs.Elements.{elements-complete}
+use Rattle.dc_int.proofs.Stores.{same_element-is}
+use Rattle.dc_code.specs.Laws.{IsFramed, DiffersAtRead, TouchesOwn, HoldsOwn, IsOwn, EndsAlike, NothingWrong, alone_runs, may_touch}
+use Rattle.dc_code.specs.Loops.{Parts, Passage, alone, order, closed}
+use Rattle.dc_code.specs.Pairs.{clashes}
+use Rattle.dc_code.specs.Verdicts.{go_on, verdict}
+use Rattle.dc_code.proofs.Alone.{done_alone, order-alone}
+use Rattle.dc_code.proofs.Closings.{closing-permuted}
+use Rattle.dc_code.proofs.Judged.{nothing-wrong}
+use Rattle.dc_code.proofs.Permuted.{clashes-permuted}
+
+-- What is not found among some elements fails the test.
+none-found
+    : (test : ElementId → Bool) (elements : List ElementId) (x : ElementId) → find test elements ≡ None → list_any (same_element x) elements ≡ true
+    → test x ≡ false
+none-found test [] x none among = absurd (false≢true among)
+none-found test (y ∷ elements) x none among = by (test y) refl (same_element x y) refl none among (none-found test elements x)
+  where
+    by
+        : (a : Bool) → test y ≡ a → (b : Bool) → same_element x y ≡ b → (if a then Some y else find test elements) ≡ None
+        → (b || list_any (same_element x) elements) ≡ true
+        → (find test elements ≡ None → list_any (same_element x) elements ≡ true → test x ≡ false) → test x ≡ false
+    by true passes b is none among later = absurd (none-some y (sym none))
+    by false fails true is none among later = ap test (same_element-is x y is) ∙ fails
+    by false fails false is none among later = later none among
+
+module _ (parts : Parts) (store : Store) (framed : IsFramed parts) (differs : DiffersAtRead parts) (own : TouchesOwn parts store) where
+  abbrev locality : ℕ → Locality
+  locality = parts.form.known.locality
+
+  never-touched
+      : (iterations : List (List ℤ)) (x : ElementId) → may_touch (locality x.variable) ≡ false
+      → list_any (touches x) (alone_runs parts store iterations) ≡ false
+  never-touched [] x never = refl
+  never-touched (at ∷ rest) x never = by (touches x (alone parts store at).entries) refl (never-touched rest x never)
+    where
+      by
+          : (b : Bool) → touches x (alone parts store at).entries ≡ b → list_any (touches x) (alone_runs parts store rest) ≡ false
+          → (b || list_any (touches x) (alone_runs parts store rest)) ≡ false
+      by true touched later = absurd (false≢true (sym never ∙ own.allowed at x touched))
+      by false apart later = later
+
+  all-own : (iterations : List (List ℤ)) → All (All (IsOwn parts.form.known)) (alone_runs parts store iterations)
+  all-own [] = All-nil (All (IsOwn parts.form.known))
+  all-own (at ∷ rest) =
+      All-cons (All (IsOwn parts.form.known)) (alone parts store at).entries (alone_runs parts store rest) (own.contributed at) (all-own rest)
+
+  -- Where nothing is wrong, every order of the iterations ends alike.
+  pub ends-alike
+      : (iterations ordered : List (List ℤ)) → HoldsOwn parts.form.known store → NothingWrong parts store iterations
+      → IsPermutation iterations ordered
+      → EndsAlike parts store iterations ordered
+  ends-alike iterations ordered holds nothing permuted =
+      let runs = alone_runs parts store iterations in
+      let others = alone_runs parts store ordered in
+      let runs_permuted : IsPermutation runs others =
+      IsPermutation-map (λ (passage : Passage). passage.entries) (map (alone parts store) iterations) (map (alone parts store) ordered)
+      (IsPermutation-map (alone parts store) iterations ordered permuted) in
+      let apart : (x : ElementId) → is_some (cell_of store x) ≡ true → clashes (locality x.variable) x runs ≡ false =
+      λ x some. none-found (λ (y : ElementId). clashes (locality y.variable) y runs) (elements_of store) x nothing.clash
+      (elements-complete store x some) in
+      let apart_too : (x : ElementId) → is_some (cell_of store x) ≡ true → clashes (locality x.variable) x others ≡ false =
+      λ x some. sym (clashes-permuted (locality x.variable) x runs others runs_permuted) ∙ apart x some in
+      let well = All-permutation (λ at. (alone parts store at).trouble ≡ None) iterations ordered permuted nothing.well in
+      let ascending : order parts [] store iterations ≡ done_alone parts store store iterations =
+      order-alone parts store framed own iterations nothing.well apart in
+      let other : order parts [] store ordered ≡ done_alone parts store store ordered = order-alone parts store framed own ordered well apart_too in
+      let same : closed parts (done_alone parts store store iterations) ≡ closed parts (done_alone parts store store ordered) =
+      closing-permuted parts.form.known parts.form.line store runs others runs_permuted apart (never-touched iterations) (never-touched ordered)
+      (all-own iterations) holds in
+      record {
+        trouble = ap (λ o. o.trouble) other;
+        runs = ap (λ o. o.runs) other;
+        unbroken = λ x some. ap (λ o. clashes (locality x.variable) x o.runs) other ∙ apart_too x some;
+        closing = ap (closed parts) other ∙ sym same ∙ ap (closed parts) (sym ascending);
+      }
+
+-- Where the verdict is that the loop goes on, every order of its iterations ends alike.
+pub goes-on_alike
+    : (parts : Parts) (store : Store) → IsFramed parts → DiffersAtRead parts → TouchesOwn parts store → HoldsOwn parts.form.known store
+    → (iterations : List (List ℤ)) → verdict parts store iterations ≡ go_on
+    → (ordered : List (List ℤ)) → IsPermutation iterations ordered → EndsAlike parts store iterations ordered
+goes-on_alike parts store framed differs own holds iterations told ordered permuted =
+    ends-alike parts store framed differs own iterations ordered holds (nothing-wrong parts store own framed differs iterations told) permuted

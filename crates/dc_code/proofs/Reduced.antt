@@ -1,0 +1,163 @@
+-- The reductions of a loop are the same for runs in another order.
+use Rattle.std.proofs.Common.{◌≡◌, ℕ, Bool, true, false, List, [], ◌∷◌, All, Option, Some, None, refl, sym, ap, ◌∙◌, subst}
+use Rattle.std.proofs.lemmas.List.Elements.{All-nil, All-cons, All-head, All-tail, All-append}
+use Rattle.std.proofs.lemmas.Option.{none-some, same_Some}
+use Rattle.std.specs.Prelude.{ℤ, filter_map}
+use Rattle.std.specs.List.{list_any}
+use Rattle.std.specs.List.Sorted.{IsPermutation}
+use Rattle.dc_int.specs.declared.access.ElementId.{ElementId}
+use Rattle.dc_int.specs.declared.kind.Kind.{Kind}
+use Rattle.dc_int.specs.declared.operation.ReduceOp.{ReduceOp}
+use Rattle.dc_int.specs.declared.variable.Locality.{Locality}
+use Rattle.dc_int.specs.Entries.{Entry, Reads, Defines, Undefines, Contributes, touches}
+use Rattle.dc_int.specs.Reductions.{can_combine, combined}
+use Rattle.dc_int.specs.Store.{Store, value_at, same_element}
+use Rattle.dc_int.proofs.Reductions.{combined-inside, combined-swap}
+use Rattle.dc_int.proofs.Stores.{same_element-is}
+use Rattle.dc_code.specs.Closing.{Localities, contributed_by, contributed, combined_with, own_operation, reduced}
+use Rattle.dc_code.specs.Laws.{IsOwn, HoldsOwn, may_touch}
+use Rattle.dc_code.proofs.Alone.{left_by}
+use Rattle.dc_code.proofs.Exchanges.{by_exchanges, flat_map-permutation}
+use Rattle.dc_code.proofs.Permuted.{value-left}
+
+-- ---- values that are combined
+
+abbrev Can : ReduceOp → Kind → ℤ → Type 0
+Can op kind value = can_combine op kind value ≡ true
+
+-- The others can be combined too, and the same comes of them.
+record CombineAlike (op : ReduceOp) (kind : Kind) (values others : List ℤ) : Type 0 where
+  can : All (Can op kind) others
+  same : (value : ℤ) → can_combine op kind value ≡ true → combined_with op kind value values ≡ combined_with op kind value others
+
+combine-alike
+    : (op : ReduceOp) (kind : Kind) (values others : List ℤ) → IsPermutation values others → All (Can op kind) values
+    → CombineAlike op kind values others
+combine-alike op kind = by_exchanges (λ values others. All (Can op kind) values → CombineAlike op kind values others)
+    (λ values all. record { can = all; same = λ value suits. refl })
+    (λ xs ys zs one other all.
+    let first = one all in
+    let second = other first.can in
+    record { can = second.can; same = λ value suits. first.same value suits ∙ second.same value suits })
+    (λ x xs ys held all.
+    let rest = held (All-tail (Can op kind) x xs all) in
+    record {
+      can = All-cons (Can op kind) x ys (All-head (Can op kind) x xs all) rest.can;
+      same = λ value suits. rest.same (combined op kind value x) (combined-inside op kind value x);
+    })
+    (λ x y xs all.
+    let suits_x = All-head (Can op kind) x (y ∷ xs) all in
+    let rest = All-tail (Can op kind) x (y ∷ xs) all in
+    let suits_y = All-head (Can op kind) y xs rest in
+    record {
+      can = All-cons (Can op kind) y (x ∷ xs) suits_y (All-cons (Can op kind) x xs suits_x (All-tail (Can op kind) y xs rest));
+      same = λ value suits. ap (λ v. combined_with op kind v xs) (combined-swap op kind value x y suits suits_x suits_y);
+    })
+
+-- ---- what runs contribute
+
+-- Each contribution of a run to an element of a reduction is a value that its operation combines.
+can-contributed_by
+    : (known : Localities) (op : ReduceOp) (x : ElementId) → known.locality x.variable ≡ Locality.Reduce op → (run : List Entry)
+    → All (IsOwn known) run
+    → All (Can op (known.kind x.variable)) (filter_map (contributed_by x) run)
+can-contributed_by known op x is [] own = All-nil (Can op (known.kind x.variable))
+can-contributed_by known op x is (Reads y line ∷ run) own = can-contributed_by known op x is run (All-tail (IsOwn known) (Reads y line) run own)
+can-contributed_by known op x is (Defines y value line ∷ run) own =
+    can-contributed_by known op x is run (All-tail (IsOwn known) (Defines y value line) run own)
+can-contributed_by known op x is (Undefines y line ∷ run) own =
+    can-contributed_by known op x is run (All-tail (IsOwn known) (Undefines y line) run own)
+can-contributed_by known op x is (Contributes y other value ∷ run) own =
+    by (same_element x y) refl (can-contributed_by known op x is run (All-tail (IsOwn known) (Contributes y other value) run own))
+    (All-head (IsOwn known) (Contributes y other value) run own)
+  where
+    by
+        : (b : Bool) → same_element x y ≡ b → All (Can op (known.kind x.variable)) (filter_map (contributed_by x) run)
+        → IsOwn known (Contributes y other value)
+        → All (Can op (known.kind x.variable)) (filter_map (contributed_by x) (Contributes y other value ∷ run))
+    by true same rest (locality_is, suits) =
+        let here : x ≡ y = same_element-is x y same in
+        let operations : Locality.Reduce other ≡ Locality.Reduce op = sym locality_is ∙ ap (λ z. known.locality z.variable) (sym here) ∙ is in
+        let operation : other ≡ op = cc in
+        let fits : Can op (known.kind x.variable) value =
+        subst (λ o. Can o (known.kind x.variable) value) operation (subst (λ z. Can other (known.kind z.variable) value) (sym here) suits) in
+        rw same (All-cons (Can op (known.kind x.variable)) value (filter_map (contributed_by x) run) fits rest)
+    by false same rest own = rw same rest
+
+can-contributed
+    : (known : Localities) (op : ReduceOp) (x : ElementId) → known.locality x.variable ≡ Locality.Reduce op → (runs : List (List Entry))
+    → All (All (IsOwn known)) runs
+    → All (Can op (known.kind x.variable)) (contributed x runs)
+can-contributed known op x is [] own = All-nil (Can op (known.kind x.variable))
+can-contributed known op x is (run ∷ runs) own =
+    All-append (Can op (known.kind x.variable)) (filter_map (contributed_by x) run) (contributed x runs)
+    (can-contributed_by known op x is run (All-head (All (IsOwn known)) run runs own))
+    (can-contributed known op x is runs (All-tail (All (IsOwn known)) run runs own))
+
+-- ---- the definition of an element
+
+own-is : (known : Localities) (variable : ℕ) (op : ReduceOp) → own_operation known variable ≡ Some op → known.locality variable ≡ Locality.Reduce op
+own-is known variable op e = by_passed (known.passed variable) refl
+  where
+    by_locality
+        : known.passed variable ≡ false → (locality : Locality) → known.locality variable ≡ locality → known.locality variable ≡ Locality.Reduce op
+    by_locality kept (Locality.Reduce other) is =
+        let told : own_operation known variable ≡ Some other = rw (kept, is) refl in
+        is ∙ ap Locality.Reduce (same_Some other op (sym told ∙ e))
+    by_locality kept Locality.Plain is = let told : own_operation known variable ≡ None = rw (kept, is) refl in absurd (none-some op (sym told ∙ e))
+    by_locality kept Locality.Shared is = let told : own_operation known variable ≡ None = rw (kept, is) refl in absurd (none-some op (sym told ∙ e))
+    by_locality kept Locality.Local is = let told : own_operation known variable ≡ None = rw (kept, is) refl in absurd (none-some op (sym told ∙ e))
+    by_locality kept Locality.LocalInit is =
+        let told : own_operation known variable ≡ None = rw (kept, is) refl in absurd (none-some op (sym told ∙ e))
+
+    by_passed : (passed : Bool) → known.passed variable ≡ passed → known.locality variable ≡ Locality.Reduce op
+    by_passed true passed = let told : own_operation known variable ≡ None = rw passed refl in absurd (none-some op (sym told ∙ e))
+    by_passed false kept = by_locality kept (known.locality variable) refl
+
+-- the definition of an element by its operation and its value
+abbrev defined_by : Localities → ℕ → List (List Entry) → ElementId → Option ReduceOp → Option ℤ → Option Entry
+defined_by known line runs x (Some op) (Some value) = Some (Defines x (combined_with op (known.kind x.variable) value (contributed x runs)) line)
+defined_by known line runs x op value = None
+
+reduced-is
+    : (known : Localities) (line : ℕ) (runs : List (List Entry)) (store : Store) (x : ElementId)
+    → reduced known line runs store x ≡ defined_by known line runs x (own_operation known x.variable) (value_at store x)
+reduced-is known line runs store x = by (own_operation known x.variable) (value_at store x) refl refl
+  where
+    by
+        : (op : Option ReduceOp) (value : Option ℤ) → own_operation known x.variable ≡ op → value_at store x ≡ value
+        → reduced known line runs store x ≡ defined_by known line runs x op value
+    by (Some op) (Some value) op_is value_is = rw (op_is, value_is) refl
+    by (Some op) None op_is value_is = rw (op_is, value_is) refl
+    by None value op_is value_is = rw op_is refl
+
+-- An element of a reduction is defined alike by runs and by a permutation of them.
+pub reduced-permuted
+    : (known : Localities) (line : ℕ) (runs others : List (List Entry)) (store : Store) → IsPermutation runs others
+    → All (All (IsOwn known)) runs → HoldsOwn known store
+    → ((x : ElementId) → may_touch (known.locality x.variable) ≡ false → list_any (touches x) runs ≡ false)
+    → ((x : ElementId) → may_touch (known.locality x.variable) ≡ false → list_any (touches x) others ≡ false)
+    → (x : ElementId) → reduced known line runs (left_by runs store) x ≡ reduced known line others (left_by others store) x
+reduced-permuted known line runs others store permuted own holds apart apart_too x =
+    reduced-is known line runs (left_by runs store) x ∙ by (own_operation known x.variable) refl
+    ∙ sym (reduced-is known line others (left_by others store) x)
+  where
+    by_value
+        : (op : ReduceOp) → known.locality x.variable ≡ Locality.Reduce op → (value : Option ℤ) → value_at store x ≡ value
+        → defined_by known line runs x (Some op) value ≡ defined_by known line others x (Some op) value
+    by_value op is None value_is = refl
+    by_value op is (Some value) value_is =
+        let alike =
+        combine-alike op (known.kind x.variable) (contributed x runs) (contributed x others)
+        (flat_map-permutation (filter_map (contributed_by x)) runs others permuted) (can-contributed known op x is runs own) in
+        ap (λ v. Some (Defines x v line)) (alike.same value (holds x op value is value_is))
+
+    by
+        : (op : Option ReduceOp) → own_operation known x.variable ≡ op
+        → defined_by known line runs x op (value_at (left_by runs store) x) ≡ defined_by known line others x op (value_at (left_by others store) x)
+    by None op_is = refl
+    by (Some op) op_is =
+        let is = own-is known x.variable op op_is in
+        let never : may_touch (known.locality x.variable) ≡ false = ap may_touch is in
+        ap (defined_by known line runs x (Some op)) (value-left runs store x (apart x never)) ∙ by_value op is (value_at store x) refl
+        ∙ ap (defined_by known line others x (Some op)) (sym (value-left others store x (apart_too x never)))

@@ -1,0 +1,232 @@
+-- What a verdict shows of the iterations that it names.
+use Rattle.std.proofs.Common.{◌≡◌, ℕ, Bool, true, false, List, [], ◌∷◌, map, Option, Some, None, refl, sym, ap, ◌∙◌, subst}
+use Rattle.std.proofs.lemmas.Bool.{false≢true}
+use Rattle.std.proofs.lemmas.List.Elements.{All-nil, All-cons}
+use Rattle.std.proofs.lemmas.Option.{none-some, same_Some}
+use Rattle.std.specs.Prelude.{ℤ, slice_get, option_and_then}
+use Rattle.dc_int.specs.declared.access.ElementId.{ElementId}
+use Rattle.dc_int.specs.Entries.{Entry}
+use Rattle.dc_int.specs.Store.{Store}
+use Rattle.dc_code.specs.declared.verdict.Race.{Race}
+use Rattle.dc_code.specs.Laws.{alone_runs, EndWell}
+use Rattle.dc_code.specs.Loops.{Parts, Passage, alone, order}
+use Rattle.dc_code.specs.Pairs.{first_clash, pair}
+use Rattle.dc_code.specs.Troubles.{Trouble}
+use Rattle.dc_code.specs.Verdicts.{Verdict, go_on, in_iteration, race, first_of, or_later, bad_iteration, race_in, race_between, race_among, verdict}
+
+-- What is handed on came of something.
+pub record HandedOn {A B : Type 0} (option : Option A) (next : A → Option B) (b : B) : Type 0 where
+  pub item : A
+  pub is : option ≡ Some item
+  pub next_is : next item ≡ Some b
+
+pub handed_on : {A B : Type 0} (option : Option A) (next : A → Option B) (b : B) → option_and_then next option ≡ Some b → HandedOn option next b
+handed_on None next b e = absurd (none-some b e)
+handed_on (Some a) next b e = record { item = a; is = refl; next_is = e }
+
+-- ---- a race
+
+-- The verdict is the race of the iterations i and j.
+pub record RaceBetween (parts : Parts) (store : Store) (iterations : List (List ℤ)) (i j : ℕ) (said : Verdict) : Type 0 where
+  pub first : List ℤ
+  pub second : List ℤ
+  pub found : Race
+  pub first_is : slice_get iterations i ≡ Some first
+  pub second_is : slice_get iterations j ≡ Some second
+  pub found_is : race_in parts.form.known.locality i j (order parts [] store (first ∷ second ∷ [])).runs ≡ Some found
+  pub said_is : said ≡ race found first second
+
+-- the steps of `race_between`, each behind what the one before it found
+abbrev pub told_of : Parts → Store → ℕ → ℕ → List ℤ → List ℤ → Option Race
+told_of parts store i j first second = race_in parts.form.known.locality i j (order parts [] store (first ∷ second ∷ [])).runs
+
+abbrev pub behind_second : Parts → Store → ℕ → ℕ → List ℤ → List ℤ → Option Verdict
+behind_second parts store i j first second = option_and_then (λ found. Some (race found first second)) (told_of parts store i j first second)
+
+abbrev pub behind_first : Parts → Store → List (List ℤ) → ℕ → ℕ → List ℤ → Option Verdict
+behind_first parts store iterations i j first = option_and_then (behind_second parts store i j first) (slice_get iterations j)
+
+pub race-between
+    : (parts : Parts) (store : Store) (iterations : List (List ℤ)) (i j : ℕ) (said : Verdict)
+    → race_between parts store iterations (i, j) ≡ Some said → RaceBetween parts store iterations i j said
+race-between parts store iterations i j said e =
+    let one : HandedOn (slice_get iterations i) (behind_first parts store iterations i j) said =
+    handed_on (slice_get iterations i) (behind_first parts store iterations i j) said e in
+    let two = handed_on (slice_get iterations j) (behind_second parts store i j one.item) said one.next_is in
+    let three = handed_on (told_of parts store i j one.item two.item) (λ found. Some (race found one.item two.item)) said two.next_is in
+    record {
+      first = one.item;
+      second = two.item;
+      found = three.item;
+      first_is = one.is;
+      second_is = two.is;
+      found_is = three.is;
+      said_is = sym (same_Some (race three.item one.item two.item) said three.next_is);
+    }
+
+-- what `race_among` goes on with behind a clash
+abbrev pub behind_clash : Parts → Store → List (List ℤ) → List (List Entry) → ElementId → Option Verdict
+behind_clash parts store iterations runs x =
+    option_and_then (race_between parts store iterations) (pair (parts.form.known.locality x.variable) x runs)
+
+-- The verdict is the race that the least clashing element names.
+pub record RaceAmong (parts : Parts) (store : Store) (iterations : List (List ℤ)) (runs : List (List Entry)) (said : Verdict) : Type 0 where
+  pub x : ElementId
+  pub i : ℕ
+  pub j : ℕ
+  pub clash : first_clash parts.form.known.locality store runs ≡ Some x
+  pub named : pair (parts.form.known.locality x.variable) x runs ≡ Some (i, j)
+  pub between : RaceBetween parts store iterations i j said
+
+pub race-among
+    : (parts : Parts) (store : Store) (iterations : List (List ℤ)) (runs : List (List Entry)) (said : Verdict)
+    → race_among parts store iterations runs ≡ Some said → RaceAmong parts store iterations runs said
+race-among parts store iterations runs said e =
+    let one = handed_on (first_clash parts.form.known.locality store runs) (behind_clash parts store iterations runs) said e in
+    let two = handed_on (pair (parts.form.known.locality one.item.variable) one.item runs) (race_between parts store iterations) said one.next_is in
+    record {
+      x = one.item;
+      i = two.item.0;
+      j = two.item.1;
+      clash = one.is;
+      named = two.is;
+      between =
+          race-between parts store iterations two.item.0 two.item.1 said two.next_is;
+    }
+
+-- ---- the parts of a verdict
+
+-- the verdict tells of a race
+abbrev is_race : Verdict → Bool
+is_race (race found first second) = true
+is_race said = false
+
+among-is_race
+    : (parts : Parts) (store : Store) (iterations : List (List ℤ)) (runs : List (List Entry)) (said : Verdict)
+    → race_among parts store iterations runs ≡ Some said → is_race said ≡ true
+among-is_race parts store iterations runs said e = ap is_race (race-among parts store iterations runs said e).between.said_is
+
+-- A verdict that tells of an iteration has the trouble that this one meets alone.
+bad-alone
+    : (parts : Parts) (store : Store) (iterations : List (List ℤ)) (met : Trouble) (at : List ℤ)
+    → bad_iteration iterations (map (alone parts store) iterations) ≡ Some (in_iteration met at) → (alone parts store at).trouble ≡ Some met
+bad-alone parts store [] met at e = absurd (none-some (in_iteration met at) e)
+bad-alone parts store (other ∷ rest) met at e = by (alone parts store other).trouble refl e (bad-alone parts store rest met at)
+  where
+    by
+        : (trouble : Option Trouble) → (alone parts store other).trouble ≡ trouble
+        → or_later other trouble (bad_iteration rest (map (alone parts store) rest)) ≡ Some (in_iteration met at)
+        → (bad_iteration rest (map (alone parts store) rest) ≡ Some (in_iteration met at) → (alone parts store at).trouble ≡ Some met)
+        → (alone parts store at).trouble ≡ Some met
+    by (Some trouble) is e later =
+        let same : in_iteration trouble other ≡ in_iteration met at = same_Some (in_iteration trouble other) (in_iteration met at) e in
+        let same_trouble : trouble ≡ met = cc in
+        let same_values : other ≡ at = cc in
+        subst (λ values. (alone parts store values).trouble ≡ Some met) same_values (is ∙ ap (λ (t : Trouble). Some t) same_trouble)
+    by None is e later = later e
+
+pub told-alone
+    : (parts : Parts) (store : Store) (iterations : List (List ℤ)) (met : Trouble) (at : List ℤ)
+    → verdict parts store iterations ≡ in_iteration met at → (alone parts store at).trouble ≡ Some met
+told-alone parts store iterations met at told =
+    by (bad_iteration iterations (map (alone parts store) iterations)) refl
+    (race_among parts store iterations (alone_runs parts store iterations)) refl told
+  where
+    by
+        : (bad : Option Verdict) → bad_iteration iterations (map (alone parts store) iterations) ≡ bad
+        → (raced : Option Verdict) → race_among parts store iterations (alone_runs parts store iterations) ≡ raced
+        → first_of bad raced ≡ in_iteration met at → (alone parts store at).trouble ≡ Some met
+    by (Some said) bad_is raced raced_is e = bad-alone parts store iterations met at (bad_is ∙ ap (λ (v : Verdict). Some v) e)
+    by None bad_is (Some said) raced_is e =
+        let shown : is_race said ≡ true = among-is_race parts store iterations (alone_runs parts store iterations) said raced_is in
+        let told : is_race said ≡ false = ap is_race e in
+        cc
+    by None bad_is None raced_is e = cc
+
+bad-is_race
+    : (iterations : List (List ℤ)) (passages : List Passage) (said : Verdict) → bad_iteration iterations passages ≡ Some said → is_race said ≡ false
+bad-is_race [] passages said e = absurd (none-some said e)
+bad-is_race (at ∷ rest) [] said e = absurd (none-some said e)
+bad-is_race (at ∷ rest) (passage ∷ passages) said e = by passage.trouble e (bad-is_race rest passages said)
+  where
+    by
+        : (trouble : Option Trouble) → or_later at trouble (bad_iteration rest passages) ≡ Some said
+        → (bad_iteration rest passages ≡ Some said → is_race said ≡ false) → is_race said ≡ false
+    by (Some met) e later = ap is_race (sym (same_Some (in_iteration met at) said e))
+    by None e later = later e
+
+-- A verdict of a race is that of the least clashing element.
+pub told-race
+    : (parts : Parts) (store : Store) (iterations : List (List ℤ)) (found : Race) (first second : List ℤ)
+    → verdict parts store iterations ≡ race found first second
+    → RaceAmong parts store iterations (alone_runs parts store iterations) (race found first second)
+told-race parts store iterations found first second told =
+    by (bad_iteration iterations (map (alone parts store) iterations)) refl
+    (race_among parts store iterations (alone_runs parts store iterations)) refl told
+  where
+    by
+        : (bad : Option Verdict) → bad_iteration iterations (map (alone parts store) iterations) ≡ bad
+        → (raced : Option Verdict) → race_among parts store iterations (alone_runs parts store iterations) ≡ raced
+        → first_of bad raced ≡ race found first second
+        → RaceAmong parts store iterations (alone_runs parts store iterations) (race found first second)
+    by (Some said) bad_is raced raced_is e =
+        let shown : is_race said ≡ false = bad-is_race iterations (map (alone parts store) iterations) said bad_is in
+        let told : is_race said ≡ true = ap is_race e in
+        absurd (false≢true (sym shown ∙ told))
+    by None bad_is (Some said) raced_is e =
+        race-among parts store iterations (alone_runs parts store iterations) (race found first second) (raced_is ∙ ap (λ (v : Verdict). Some v) e)
+    by None bad_is None raced_is e = cc
+
+-- ---- a loop that goes on
+
+abbrev goes_on : Verdict → Bool
+goes_on go_on = true
+goes_on said = false
+
+bad-goes_on
+    : (iterations : List (List ℤ)) (passages : List Passage) (said : Verdict) → bad_iteration iterations passages ≡ Some said → goes_on said ≡ false
+bad-goes_on [] passages said e = absurd (none-some said e)
+bad-goes_on (at ∷ rest) [] said e = absurd (none-some said e)
+bad-goes_on (at ∷ rest) (passage ∷ passages) said e = by passage.trouble e (bad-goes_on rest passages said)
+  where
+    by
+        : (trouble : Option Trouble) → or_later at trouble (bad_iteration rest passages) ≡ Some said
+        → (bad_iteration rest passages ≡ Some said → goes_on said ≡ false) → goes_on said ≡ false
+    by (Some met) e later = ap goes_on (sym (same_Some (in_iteration met at) said e))
+    by None e later = later e
+
+-- No iteration is told as one that doesn't end well, and no race.
+pub record TellsNothing (parts : Parts) (store : Store) (iterations : List (List ℤ)) : Type 0 where
+  pub bad : bad_iteration iterations (map (alone parts store) iterations) ≡ None
+  pub raced : race_among parts store iterations (alone_runs parts store iterations) ≡ None
+
+pub told-nothing
+    : (parts : Parts) (store : Store) (iterations : List (List ℤ)) → verdict parts store iterations ≡ go_on → TellsNothing parts store iterations
+told-nothing parts store iterations told =
+    by (bad_iteration iterations (map (alone parts store) iterations)) refl
+    (race_among parts store iterations (alone_runs parts store iterations)) refl told
+  where
+    by
+        : (bad : Option Verdict) → bad_iteration iterations (map (alone parts store) iterations) ≡ bad
+        → (raced : Option Verdict) → race_among parts store iterations (alone_runs parts store iterations) ≡ raced
+        → first_of bad raced ≡ go_on → TellsNothing parts store iterations
+    by (Some said) bad_is raced raced_is e =
+        absurd (false≢true (sym (bad-goes_on iterations (map (alone parts store) iterations) said bad_is) ∙ ap goes_on e))
+    by None bad_is (Some said) raced_is e =
+        let among = race-among parts store iterations (alone_runs parts store iterations) said raced_is in
+        absurd (false≢true (sym (ap goes_on among.between.said_is) ∙ ap goes_on e))
+    by None bad_is None raced_is e = record { bad = bad_is; raced = raced_is }
+
+-- So each iteration ends well.
+pub none-bad-end_well
+    : (parts : Parts) (store : Store) (iterations : List (List ℤ)) → bad_iteration iterations (map (alone parts store) iterations) ≡ None
+    → EndWell parts store iterations
+none-bad-end_well parts store [] none = All-nil (λ at. (alone parts store at).trouble ≡ None)
+none-bad-end_well parts store (at ∷ rest) none = by (alone parts store at).trouble refl none (none-bad-end_well parts store rest)
+  where
+    by
+        : (trouble : Option Trouble) → (alone parts store at).trouble ≡ trouble
+        → or_later at trouble (bad_iteration rest (map (alone parts store) rest)) ≡ None
+        → (bad_iteration rest (map (alone parts store) rest) ≡ None → EndWell parts store rest) → EndWell parts store (at ∷ rest)
+    by (Some met) is e later = absurd (none-some (in_iteration met at) (sym e))
+    by None is e later = All-cons (λ a. (alone parts store a).trouble ≡ None) at rest is (later e)

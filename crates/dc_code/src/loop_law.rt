@@ -1,0 +1,60 @@
+ghost use Rattle.std.specs.Prelude.{◌≡◌, [], ◌∷◌, List, Some, ℤ};
+ghost use Rattle.std.specs.List.Sorted.{IsPermutation};
+ghost use Rattle.dc_int.specs.declared.access.ElementId.{ElementId};
+ghost use Rattle.dc_int.specs.Store.{Store};
+ghost use Rattle.dc_code.specs.declared.verdict.Race.{Race};
+ghost use Rattle.dc_code.specs.Inner.{parts_with};
+ghost use Rattle.dc_code.specs.Laws.{HasPlainBlocks, IsFramed, DiffersAtRead, TouchesOwn, HoldsOwn, EndWell, alone_runs, EndsAt, BeginsWithRace, NamesIterations, TellsRace, NothingWrong, EndsAlike};
+ghost use Rattle.dc_code.specs.Loops.{Form, Parts, order};
+ghost use Rattle.dc_code.specs.Pairs.{first_clash};
+ghost use Rattle.dc_code.specs.Passages.{Entering};
+ghost use Rattle.dc_code.specs.Troubles.{Trouble};
+ghost use Rattle.dc_code.specs.Verdicts.{verdict, go_on, in_iteration, race};
+
+/// A loop whose blocks hold no loop is framed: what an iteration does depends on the elements of which it
+/// has exposed reads and on those that LOCAL_INIT entities copy, and two of its runs differ first at a read.
+pub fn plain_blocks_are_framed()
+    ensures framed { (enter : Entering) (form : Form) → HasPlainBlocks form → IsFramed (parts_with enter form) }
+    ensures differs { (enter : Entering) (form : Form) → HasPlainBlocks form → DiffersAtRead (parts_with enter form) }
+{}
+
+/// Where the verdict names an iteration that doesn't end well, every order that begins with it ends there,
+/// with the trouble that is told.
+pub fn a_bad_iteration_ends_its_orders()
+    ensures { (parts : Parts) (store : Store) (iterations : List (List ℤ)) (met : Trouble) (at : List ℤ)
+        → verdict parts store iterations ≡ in_iteration met at
+        → (rest : List (List ℤ)) → EndsAt parts store at met (order parts [] store (at ∷ rest)) }
+{}
+
+/// Where the verdict is a race, it names two different iterations, and in every order that begins with
+/// them, in this order, these two break the restriction of the element that is named, by the accesses that
+/// are named.
+pub fn a_race_is_in_its_orders()
+    ensures names { (parts : Parts) (store : Store) (iterations : List (List ℤ)) (found : Race) (first second : List ℤ)
+        → verdict parts store iterations ≡ race found first second → NamesIterations found iterations first second }
+    ensures begins { (parts : Parts) (store : Store) (iterations : List (List ℤ)) (found : Race) (first second : List ℤ)
+        → verdict parts store iterations ≡ race found first second
+        → (rest : List (List ℤ)) → BeginsWithRace parts.form.known.locality found (order parts [] store (first ∷ second ∷ rest)) }
+{}
+
+/// Where each iteration, alone, ends well and an element clashes, the verdict is a race. So a loop goes on
+/// where each iteration ends well and no element clashes, and only there.
+pub fn a_clash_is_a_race()
+    ensures race { (parts : Parts) (store : Store) → IsFramed parts → DiffersAtRead parts → TouchesOwn parts store
+        → (iterations : List (List ℤ)) → EndWell parts store iterations
+        → (x : ElementId) → first_clash parts.form.known.locality store (alone_runs parts store iterations) ≡ Some x
+        → TellsRace (verdict parts store iterations) }
+    ensures only { (parts : Parts) (store : Store) → IsFramed parts → DiffersAtRead parts → TouchesOwn parts store
+        → (iterations : List (List ℤ)) → verdict parts store iterations ≡ go_on → NothingWrong parts store iterations }
+    ensures goes_on { (parts : Parts) (store : Store) (iterations : List (List ℤ))
+        → NothingWrong parts store iterations → verdict parts store iterations ≡ go_on }
+{}
+
+/// Where the verdict is that the loop goes on, every order of its iterations ends well: each iteration makes
+/// the entries that it makes alone, no two break the restriction of an element of the store, and the loop
+/// ends with the same store as in ascending order.
+pub fn a_loop_that_goes_on_ends_alike_in_every_order()
+    ensures { (parts : Parts) (store : Store) → IsFramed parts → DiffersAtRead parts → TouchesOwn parts store → HoldsOwn parts.form.known store
+        → (iterations : List (List ℤ)) → verdict parts store iterations ≡ go_on
+        → (ordered : List (List ℤ)) → IsPermutation iterations ordered → EndsAlike parts store iterations ordered }
+{}
