@@ -1,5 +1,5 @@
 -- The subscripts of a position lead back to it.
-use Rattle.std.proofs.Common.{◌≡◌, ◌*◌, ◌/◌, ◌%◌, ◌<◌, ◌&&◌, ℕ, zero, suc, true, [], ◌∷◌, Some, None, refl, ap, ◌∙◌, arith}
+use Rattle.std.proofs.Common.{◌≡◌, ◌*◌, ◌/◌, ◌%◌, ◌<◌, ◌≤◌, ◌&&◌, ℕ, zero, suc, true, [], ◌∷◌, Some, None, refl, ap, ◌∙◌, arith}
 use Rattle.std.proofs.Math.Nat.{mod-lt, mod-add-div, div-lt_iff_lt-mul}
 use Rattle.std.proofs.lemmas.Int.{ints}
 use Rattle.std.specs.Prelude.{ℤ, pos, negsuc, ◌+ℤ◌, ◌≤ℤ◌, ◌<ℤ◌, int_le, if◌then◌else◌}
@@ -29,7 +29,7 @@ offset_back low high n h =
     let under_test : int_le (low +ℤ pos n) high ≡ true = search (arith, ints) in
     λ i. if above_test i && under_test i then Some (gap_of_more low (low +ℤ pos n) n refl i) else None
 
-some_extent : (size others position : ℕ) → position < size * others → 0 < size
+pub some_extent : (size others position : ℕ) → position < size * others → 0 < size
 some_extent zero others position h = let none : zero * others ≡ 0 = omega arith in absurd (omega arith)
 some_extent (suc size) others position h = omega arith
 
@@ -42,3 +42,37 @@ leads_back ((low, high) ∷ bounds) position h =
     let first = offset_back low high (position % size) (mod-lt position some) in
     let others = leads_back bounds (position / size) ((div-lt_iff_lt-mul some).1 (omega (arith, h))) in
     (λ i. joined_position size (first i) (others i)) ∙ ap (λ n. Some n) (mod-add-div position size)
+
+-- ---- one dimension after another
+
+-- What is known where the subscripts from a dimension on are still to come.
+pub record IsLeft (bounds : Bounds) (left : ℕ) : Type 0 where
+  pub inside : left < elements_in bounds
+  pub few : elements_in bounds ≤ 4194304
+
+-- What the first dimension of these gives: a size, the subscript and what is left of the position.
+pub record Gives (dimension : ℤ × ℤ) (bounds : Bounds) (left : ℕ) : Type 0 where
+  pub some : 0 < extent dimension
+  pub few : extent dimension ≤ 4194304
+  pub inside : left % extent dimension < extent dimension
+  pub next : IsLeft bounds (left / extent dimension)
+
+some_others : (size others position : ℕ) → position < size * others → 0 < others
+some_others size zero position h = let none : size * zero ≡ 0 = omega arith in absurd (omega arith)
+some_others size (suc others) position h = omega arith
+
+pub first_gives : (dimension : ℤ × ℤ) (bounds : Bounds) (left : ℕ) → IsLeft (dimension ∷ bounds) left → Gives dimension bounds left
+first_gives dimension bounds left known =
+    let size = extent dimension in
+    let others = elements_in bounds in
+    let some : 0 < size = some_extent size others left known.inside in
+    let some_more : 0 < others = some_others size others left known.inside in
+    let wide : size ≤ size * others = grind (arith, some_more) in
+    let long : others ≤ size * others = grind (arith, some) in
+    let few : size * others ≤ 4194304 = known.few in
+    record {
+      some = some;
+      few = omega (arith, wide, few);
+      inside = mod-lt left some;
+      next = record { inside = (div-lt_iff_lt-mul some).1 (omega (arith, known.inside)); few = omega (arith, long, few) };
+    }

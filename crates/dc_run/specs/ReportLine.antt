@@ -46,12 +46,12 @@ subscripts_at ((low, high) ∷ bounds) position =
 -- the numbers behind the first, each behind a comma, and the closing bracket
 abbrev pub rest_of_index_list : List ℤ → List ℕ
 rest_of_index_list [] = codes ")"
-rest_of_index_list (z ∷ others) = concat (codes "," ∷ signed_decimal z ∷ rest_of_index_list others ∷ [])
+rest_of_index_list (z ∷ others) = codes "," ++ (signed_decimal z ++ rest_of_index_list others)
 
 -- Numbers in brackets, with commas and no blanks.
 abbrev pub index_list : List ℤ → List ℕ
 index_list [] = codes "()"
-index_list (z ∷ others) = concat (codes "(" ∷ signed_decimal z ∷ rest_of_index_list others ∷ [])
+index_list (z ∷ others) = codes "(" ++ (signed_decimal z ++ rest_of_index_list others)
 
 -- the index lists of the levels further in, each behind a slash
 abbrev pub rest_of_levels : Path → List ℕ

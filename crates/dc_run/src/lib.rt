@@ -1,6 +1,10 @@
 //! Runs of a main program: how they end, and the line that tells of it.
 #![tactic(auto)]
 
+mod ending;
 mod law;
+mod report;
 
+pub use ending::Ending;
 pub use law::subscripts_lead_back;
+pub use report::ending_line;
