@@ -13,29 +13,29 @@ use Rattle.dc_code.specs.Breaks.{breaks, accesses}
 use Rattle.dc_code.specs.Pairs.{Ends, widened, ends_of, clashes, pair, pair_of, with_reader, BreakTogether, NamesBreak}
 
 -- The test holds of the iteration of this number.
-record Holds (test : List Entry → Bool) (runs : List (List Entry)) (k : ℕ) : Type 0 where
-  run : List Entry
-  is : slice_get runs k ≡ Some run
-  holds : test run ≡ true
+pub record Holds (test : List Entry → Bool) (runs : List (List Entry)) (k : ℕ) : Type 0 where
+  pub run : List Entry
+  pub is : slice_get runs k ≡ Some run
+  pub holds : test run ≡ true
 
-later : (test : List Entry → Bool) (run : List Entry) (runs : List (List Entry)) (k : ℕ) → Holds test runs k → Holds test (run ∷ runs) (suc k)
+pub later : (test : List Entry → Bool) (run : List Entry) (runs : List (List Entry)) (k : ℕ) → Holds test runs k → Holds test (run ∷ runs) (suc k)
 later test run runs k h = record { run = h.run; is = h.is; holds = h.holds }
 
-earlier : (test : List Entry → Bool) (run : List Entry) (runs : List (List Entry)) (k : ℕ) → Holds test (run ∷ runs) (suc k) → Holds test runs k
+pub earlier : (test : List Entry → Bool) (run : List Entry) (runs : List (List Entry)) (k : ℕ) → Holds test (run ∷ runs) (suc k) → Holds test runs k
 earlier test run runs k h = record { run = h.run; is = h.is; holds = h.holds }
 
-here : (test : List Entry → Bool) (run : List Entry) (runs : List (List Entry)) → test run ≡ true → Holds test (run ∷ runs) 0
+pub here : (test : List Entry → Bool) (run : List Entry) (runs : List (List Entry)) → test run ≡ true → Holds test (run ∷ runs) 0
 here test run runs same = record { run = run; is = refl; holds = same }
 
-in_front : (test : List Entry → Bool) (run : List Entry) (runs : List (List Entry)) → Holds test (run ∷ runs) 0 → test run ≡ true
+pub in_front : (test : List Entry → Bool) (run : List Entry) (runs : List (List Entry)) → Holds test (run ∷ runs) 0 → test run ≡ true
 in_front test run runs h = let same : run ≡ h.run = same_Some run h.run h.is in ap test same ∙ h.holds
 
-record AreEnds (test : List Entry → Bool) (runs : List (List Entry)) (e : Ends) : Type 0 where
-  least : Holds test runs e.least
-  greatest : Holds test runs e.greatest
-  within : (k : ℕ) → Holds test runs k → (e.least ≤ k) × (k ≤ e.greatest)
+pub record AreEnds (test : List Entry → Bool) (runs : List (List Entry)) (e : Ends) : Type 0 where
+  pub least : Holds test runs e.least
+  pub greatest : Holds test runs e.greatest
+  pub within : (k : ℕ) → Holds test runs k → (e.least ≤ k) × (k ≤ e.greatest)
 
-abbrev IsFound : (List Entry → Bool) → List (List Entry) → Option Ends → Type 0
+abbrev pub IsFound : (List Entry → Bool) → List (List Entry) → Option Ends → Type 0
 IsFound test runs None = (k : ℕ) → Holds test runs k → ⊥
 IsFound test runs (Some e) = AreEnds test runs e
 
@@ -62,7 +62,7 @@ found-widened test run runs false same (Some e) found =
     within zero h = absurd (false≢true (sym same ∙ in_front test run runs h))
     within (suc k) h = let w = found.within k (earlier test run runs k h) in let low : e.least ≤ k = w.0 in let high : k ≤ e.greatest = w.1 in (omega arith, omega arith)
 
-found : (test : List Entry → Bool) (runs : List (List Entry)) → IsFound test runs (ends_of test runs)
+pub found : (test : List Entry → Bool) (runs : List (List Entry)) → IsFound test runs (ends_of test runs)
 found test [] = nothing
   where
     nothing : (k : ℕ) → Holds test [] k → ⊥
@@ -131,7 +131,7 @@ pub or-right : (a b : Bool) → b ≡ true → (a || b) ≡ true
 or-right true b b_is = refl
 or-right false b b_is = b_is
 
-same-differs : (m n : ℕ) → same m n ≡ false → m ≢ n
+pub same-differs : (m n : ℕ) → same m n ≡ false → m ≢ n
 same-differs zero zero apart = absurd (false≢true (sym apart))
 same-differs zero (suc n) apart = λ equal. omega arith
 same-differs (suc m) zero apart = λ equal. omega arith

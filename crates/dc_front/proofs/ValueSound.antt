@@ -99,7 +99,7 @@ times-good index sum (Some product) e before own lefts good =
     )
 
 -- the ranks at `+` and `-`
-sum-ranks : (mark : Mark) → IsSum mark → (is_binary mark ≡ true) × (left_rank mark ≡ 5) × (right_rank mark ≡ 6) × (level mark ≡ 5)
+pub sum-ranks : (mark : Mark) → IsSum mark → (is_binary mark ≡ true) × (left_rank mark ≡ 5) × (right_rank mark ≡ 6) × (level mark ≡ 5)
 sum-ranks mark (inl is) = rw is (refl, refl, refl, refl)
 sum-ranks mark (inr is) = rw is (refl, refl, refl, refl)
 

@@ -2,5 +2,10 @@ pub mod FirstForm
 pub mod Picking
 pub mod ProgressViews
 pub mod Reading
+pub mod SecondForm
+pub mod SecondReading
+pub mod SecondValue
+pub mod SecondValueReading
+pub mod SecondViews
 pub mod Value
 pub mod ValueReading

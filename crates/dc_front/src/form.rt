@@ -35,26 +35,26 @@ impl Picked<'_> {
     }
 }
 
-fn is_letter(byte: u8) -> bool
+pub(crate) fn is_letter(byte: u8) -> bool
     ensures { result ≡ is_letter byte }
 {
     byte.is_ascii_lowercase()
 }
 
-fn all_digits(text: &[u8]) -> bool
+pub(crate) fn all_digits(text: &[u8]) -> bool
     ensures { result ≡ list_all is_digit text.now }
 {
     text.iter().all(|c| c.is_ascii_digit())
 }
 
-fn begins_with_zero(text: &[u8]) -> bool
+pub(crate) fn begins_with_zero(text: &[u8]) -> bool
     ensures { result ≡ begins_with_zero text.now }
 {
     matches!(text, [b'0', ..])
 }
 
 #[tactic(auto, unfolding(crate::specs::FirstForm::is_size))]
-fn is_size(size: &[u8]) -> bool
+pub(crate) fn is_size(size: &[u8]) -> bool
     ensures { result ≡ is_size size.now }
 {
     1 <= size.len() && size.len() <= 4 && all_digits(size) && !begins_with_zero(size)

@@ -6,8 +6,10 @@ mod form;
 mod lines;
 mod progress;
 mod reading;
+mod second;
 mod source;
 mod trees;
 mod value;
 
+pub use second::{AcceptedSecond, accept_second};
 pub use source::{Accepted, accept};

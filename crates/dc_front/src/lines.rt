@@ -117,7 +117,7 @@ pub(crate) fn is_last_line(text: &[u8], title: u8) -> Option<bool>
     Some(matches!(after(rest, &[title])?, [] | [b'\n']))
 }
 
-fn from(text: &[u8], at: usize) -> &[u8]
+pub(crate) fn from(text: &[u8], at: usize) -> &[u8]
     ensures { result.now ≡ drop at text.now }
 {
     if at < text.len() { &text[at..] } else { &[] }

@@ -14,7 +14,7 @@ use dc_tree::{
 };
 use std::alloc::Global;
 
-fn one<T: Drop>(alloc: Global, item: T) -> Result<DcList<T>, NoMemory>
+pub(crate) fn one<T: Drop>(alloc: Global, item: T) -> Result<DcList<T>, NoMemory>
     ensures { IfOk result (λ list. list ≡ item ∷ []) }
 {
     let mut list = DcList::new(alloc);
@@ -31,7 +31,7 @@ fn two<T: Drop>(alloc: Global, first: T, second: T) -> Result<DcList<T>, NoMemor
     Ok(list)
 }
 
-fn word(alloc: Global, letter: u8) -> Result<DcText, NoMemory>
+pub(crate) fn word(alloc: Global, letter: u8) -> Result<DcText, NoMemory>
     ensures { IfOk result (λ text. text ≡ letter ∷ []) }
 {
     let mut text = DcText::new(alloc);
@@ -55,7 +55,7 @@ pub(crate) fn literal(alloc: Global, digits: &[u8]) -> Result<Expr, NoMemory>
     })
 }
 
-fn array(alloc: Global, letter: u8, size: &[u8]) -> Result<Entity, NoMemory>
+pub(crate) fn array(alloc: Global, letter: u8, size: &[u8]) -> Result<Entity, NoMemory>
     ensures { IfOk result (λ e. e ≡ entity letter (Some size.now)) }
 {
     let high = literal(alloc, size)?;
@@ -67,7 +67,7 @@ fn array(alloc: Global, letter: u8, size: &[u8]) -> Result<Entity, NoMemory>
     })
 }
 
-fn scalar(alloc: Global, letter: u8) -> Result<Entity, NoMemory>
+pub(crate) fn scalar(alloc: Global, letter: u8) -> Result<Entity, NoMemory>
     ensures { IfOk result (λ e. e ≡ entity letter None) }
 {
     Ok(Entity {
@@ -155,7 +155,7 @@ fn filling_loop(alloc: Global, form: &Picked, value: Expr) -> Result<Node, NoMem
     })
 }
 
-fn at_line(line: u32, stmt: Stmt) -> Lined
+pub(crate) fn at_line(line: u32, stmt: Stmt) -> Lined
     ensures { result ≡ at_line line stmt }
 {
     Lined { line, stmt }

@@ -23,7 +23,7 @@ fn binary(alloc: Global, mark: Mark, left: Expr, right: Expr) -> Result<Expr, No
     Ok(Expr::Binary { mark, left, right })
 }
 
-fn times(alloc: Global, product: Option<Expr>, operand: Expr) -> Result<Expr, NoMemory>
+pub(crate) fn times(alloc: Global, product: Option<Expr>, operand: Expr) -> Result<Expr, NoMemory>
     ensures { IfOk result (λ e. tree e ≡ times (option_map tree product) (tree operand)) }
 {
     match product {
@@ -32,7 +32,7 @@ fn times(alloc: Global, product: Option<Expr>, operand: Expr) -> Result<Expr, No
     }
 }
 
-fn plus(alloc: Global, sum: Option<(Expr, Mark)>, term: Expr) -> Result<Expr, NoMemory>
+pub(crate) fn plus(alloc: Global, sum: Option<(Expr, Mark)>, term: Expr) -> Result<Expr, NoMemory>
     ensures { IfOk result (λ e. tree e ≡ plus (option_map (λ s. (tree s.0, s.1)) sum) (tree term)) }
 {
     match sum {
@@ -41,7 +41,7 @@ fn plus(alloc: Global, sum: Option<(Expr, Mark)>, term: Expr) -> Result<Expr, No
     }
 }
 
-fn operator(byte: u8) -> Option<Mark>
+pub(crate) fn operator(byte: u8) -> Option<Mark>
     ensures { result ≡ operator byte }
 {
     match byte {
@@ -148,7 +148,7 @@ fn step_has(
     }
 }
 
-fn number(digits: DcText) -> Expr
+pub(crate) fn number(digits: DcText) -> Expr
     ensures { tree result ≡ of_number digits }
 {
     Expr::Number {

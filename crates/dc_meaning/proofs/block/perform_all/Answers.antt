@@ -1,0 +1,24 @@
+use Rattle.dc_meaning.specs.Standing.{scope_of}
+use Rattle.dc_meaning.proofs.Walking.{handed}
+use Rattle.dc_meaning.proofs.Blocking.{rest-small, block-next, block-bad, block-none}
+use Rattle.dc_meaning.proofs.block.perform_all.Goals as goal
+
+pub returns-in_err-perform_node : goal.returns-in_err-perform_node
+returns-in_err-perform_node c = λ number.
+    let i = c.loop-node.invariant in
+    handed c.from_residual.result _ c.from_residual.ensures.1
+    (i.left number _ _ (block-bad (scope_of c.args.walk.now) c.args.nodes.now c.loop-node.node-index c.node-item.result c.loop-node-test.true c.node-item.is i.small number (c.in_err-perform_node.ensures number)))
+
+pub loop-node-preserved : goal.loop-node-preserved
+loop-node-preserved c =
+    let i = c.loop-node.invariant in
+    record {
+      small = rest-small (scope_of c.args.walk.now) c.args.nodes.now c.loop-node.node-index c.node-item.result c.loop-node-test.true c.node-item.is i.small;
+      left = λ number after r walks.
+          i.left number after r
+          (block-next (scope_of c.args.walk.now) c.args.nodes.now c.loop-node.node-index c.node-item.result c.loop-node-test.true c.node-item.is i.small number (c.in_ok-perform_node.ensures number) walks);
+    }
+
+pub returns : goal.returns
+returns c = λ number.
+    c.loop-node.invariant.left number _ _ (block-none (scope_of c.args.walk.now) number c.args.nodes.now c.loop-node.node-index c.loop-node-test.false)

@@ -1,0 +1,145 @@
+ghost use Rattle.std.specs.Prelude.{◌≡◌, map, Some, None, IfOk, OnOk};
+ghost use Rattle.std.specs.List.{list_any};
+ghost use Rattle.dc_int.specs.Entries as entries;
+ghost use Rattle.dc_int.specs.Entries.{accesses_of, contributions_of, touched_of, state_after};
+ghost use Rattle.dc_int.specs.Store as stores;
+ghost use Rattle.dc_meaning.specs.Views.{entry_of, more_seen};
+
+use crate::note::Note;
+use dc_int::{Access, Action, Contribution, ElementId, Touch};
+use dc_text::{DcList, NoMemory};
+use std::alloc::Global;
+
+fn access_of(note: Note) -> Access
+    ensures { entries.access_of (entry_of note) ≡ Some result }
+{
+    match note {
+        Note::Read { element, line } => Access {
+            action: Action::Reads,
+            element,
+            line,
+        },
+        Note::Defined { element, line, .. } => Access {
+            action: Action::Defines,
+            element,
+            line,
+        },
+    }
+}
+
+/// The accesses that were noted, in their order.
+pub(crate) fn accesses(alloc: Global, notes: &[Note]) -> Result<DcList<Access>, NoMemory>
+    ensures { IfOk result (λ made. made ≡ accesses_of (map entry_of notes.now)) }
+{
+    let mut accesses = DcList::new(alloc);
+    for note in notes {
+        accesses.push(access_of(*note))?;
+    }
+    Ok(accesses)
+}
+
+/// The contributions that were noted: there are none.
+pub(crate) fn contributions(alloc: Global, _notes: &[Note]) -> DcList<Contribution>
+    ensures { result ≡ contributions_of (map entry_of _notes.now) }
+{
+    DcList::new(alloc)
+}
+
+fn is_same(first: ElementId, second: ElementId) -> bool
+    ensures { result ≡ stores.same_element first second }
+{
+    first.variable == second.variable && first.position == second.position
+}
+
+fn is_among(elements: &[ElementId], element: ElementId) -> bool
+    ensures { result ≡ list_any (stores.same_element element) elements.now }
+{
+    for other in elements {
+        if is_same(element, *other) {
+            return true;
+        }
+    }
+    false
+}
+
+fn state_behind(note: Note, element: ElementId, state: Option<i64>) -> Option<i64>
+    ensures { result ≡ entries.state_after_entry element (entry_of note) state }
+{
+    match note {
+        Note::Read { .. } => state,
+        Note::Defined {
+            element: other,
+            value,
+            ..
+        } => {
+            if is_same(element, other) {
+                Some(value)
+            } else {
+                state
+            }
+        }
+    }
+}
+
+/// The state in which the notes leave an element.
+fn last_state(notes: &[Note], element: ElementId) -> Option<i64>
+    ensures { result ≡ state_after element (map entry_of notes.now) None }
+{
+    let mut state = None;
+    for note in notes {
+        state = state_behind(*note, element, state);
+    }
+    state
+}
+
+/// Adds the element that was defined, unless it is among the elements.
+fn add(elements: &mut DcList<ElementId>, note: Note) -> Result<(), NoMemory>
+    ensures { OnOk result (elements.new ≡ more_seen elements.old (entry_of note)) }
+{
+    match note {
+        Note::Read { .. } => Ok(()),
+        Note::Defined { element, .. } => {
+            if is_among(elements.as_slice(), element) {
+                Ok(())
+            } else {
+                elements.push(element)
+            }
+        }
+    }
+}
+
+/// The elements that were defined, each once, in the order in which they were first.
+fn touched(alloc: Global, notes: &[Note]) -> Result<DcList<ElementId>, NoMemory>
+    ensures { IfOk result (λ made. made ≡ touched_of (map entry_of notes.now)) }
+{
+    let mut elements = DcList::new(alloc);
+    for note in notes {
+        add(&mut elements, *note)?;
+    }
+    Ok(elements)
+}
+
+fn last_states(
+    alloc: Global,
+    notes: &[Note],
+    elements: &[ElementId],
+) -> Result<DcList<Touch>, NoMemory>
+    ensures { IfOk result (λ made. made ≡ map (entries.last_state (map entry_of notes.now)) elements.now) }
+{
+    let mut touches = DcList::new(alloc);
+    for element in elements {
+        touches.push(Touch {
+            element: *element,
+            value: last_state(notes, *element),
+        })?;
+    }
+    Ok(touches)
+}
+
+/// The last states of the elements that were defined, in the order in which they were first.
+pub(crate) fn touches(alloc: Global, notes: &[Note]) -> Result<DcList<Touch>, NoMemory>
+    ensures { IfOk result (λ made. made ≡ entries.last_states (map entry_of notes.now)) }
+{
+    let elements = touched(alloc, notes)?;
+    last_states(alloc, notes, elements.as_slice())
+}

@@ -1,0 +1,56 @@
+ghost use Rattle.std.specs.Prelude.{◌≡◌, map, Some, IsTrue, IfOk};
+ghost use Rattle.std.specs.List.{list_all};
+ghost use Rattle.dc_int.specs.Store as stores;
+ghost use Rattle.dc_int.specs.Store.{elements_in};
+ghost use Rattle.dc_tree.specs.SecondForm.{is_small_symbol, are_small_bounds};
+ghost use Rattle.dc_meaning.specs.Views.{variable_of, store_with};
+
+use crate::note::Variable;
+use dc_text::{DcList, NoMemory};
+use dc_tree::{Role, Symbol};
+use std::alloc::Global;
+
+/// How many elements a variable has.
+fn size_of(bounds: &[(i64, i64)]) -> usize
+    requires { IsTrue (are_small_bounds bounds.now) }
+    ensures { result ≡ elements_in bounds.now }
+{
+    match bounds {
+        [(_, high)] => *high as usize,
+        _ => 1,
+    }
+}
+
+pub(crate) fn variable_with(
+    alloc: Global,
+    bounds: &[(i64, i64)],
+    states: &[Option<i64>],
+) -> Result<Variable, NoMemory>
+    ensures { IfOk result (λ made. variable_of made ≡ record { bounds = Some bounds.now; cells = states.now }) }
+{
+    let cells = Vec::from_slice(alloc, states)?;
+    let bounds = DcList::from_vec(Vec::from_slice(alloc, bounds)?);
+    Ok(Variable { bounds, cells })
+}
+
+/// The variables, whose elements take these states in store order.
+pub(crate) fn variables_with(
+    alloc: Global,
+    symbols: &[Symbol],
+    opening: &[Option<i64>],
+) -> Result<Vec<Variable>, NoMemory>
+    requires { IsTrue (list_all is_small_symbol symbols.now) }
+    ensures { IfOk result (λ made. map variable_of made.items ≡ store_with symbols.now opening.now) }
+{
+    let mut variables = Vec::new(alloc);
+    let mut rest = opening;
+    for symbol in symbols {
+        if let Role::Variable { bounds, .. } = &symbol.role {
+            let size = size_of(bounds.as_slice()).min(rest.len());
+            let (own, later) = rest.split_at(size);
+            variables.push(variable_with(alloc, bounds.as_slice(), own)?)?;
+            rest = later;
+        }
+    }
+    Ok(variables)
+}
