@@ -2,6 +2,7 @@ pub mod Blocking
 pub mod Changes
 pub mod Clashing
 pub mod Doubling
+pub mod FirstStores
 pub mod Forgetting
 pub mod Heading
 pub mod Indexes
@@ -11,12 +12,13 @@ pub mod Looping
 pub mod Marking
 pub mod Naming
 pub mod Numerals
-pub mod Outputs
 pub mod Passing
 pub mod Performing
 pub mod Quiet
 pub mod Racing
+pub mod Saying
 pub mod Scanning
+pub mod Shown
 pub mod Sources
 pub mod Storing
 pub mod Touching

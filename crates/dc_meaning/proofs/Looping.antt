@@ -68,7 +68,7 @@ pub record SmallLoop (scope : Scope) (says : Statement) (body : Items) : Type 0 
   pub index : is_outside_scalar (entity scope ranging.name) ≡ true
   pub block : is_small_block (with_index scope ranging.name) body ≡ true
 
-small-loop : (scope : Scope) (says : Statement) (body : Items) → is_small_loop scope says body ≡ true → SmallLoop scope says body
+pub small-loop : (scope : Scope) (says : Statement) (body : Items) → is_small_loop scope says body ≡ true → SmallLoop scope says body
 small-loop scope (concurrent None None (ranging ∷ []) None []) body e =
     let both = and_parts (is_small_ranging scope ranging) (is_small_block (with_index scope ranging.name) body) e in
     let limits = and_parts _ (is_outside_scalar (entity scope ranging.name) && (is_limit ranging.first && is_limit ranging.last)) both.0 in

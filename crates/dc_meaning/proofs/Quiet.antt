@@ -24,12 +24,12 @@ use Rattle.dc_tree.specs.Syntax.{Tree, number, truth, chars, name, refer, paren,
 use Rattle.dc_tree.specs.Typing.{joined, sort_of, sort_of_entity}
 use Rattle.dc_meaning.specs.Acts as acts
 use Rattle.dc_meaning.specs.Acts.{Place, outer, in_frame, State, Act, ◌>>=◌, just, wrong, for_each, load, required, refer_to}
-use Rattle.dc_meaning.specs.Actions.{Flow, on, returns, cycles, exits, ◌>>◌, places_of, assignment}
+use Rattle.dc_meaning.specs.Actions.{Flow, on, returns, cycles, exits, places_of, assignment}
 use Rattle.dc_meaning.specs.Execution.{plain_line, exec_all, behind_item}
 use Rattle.dc_meaning.specs.Headers.{inside_frame}
 use Rattle.dc_meaning.specs.Places.{bounds_of_entity, position_at, place_of, element_at, value_at_entity}
 use Rattle.dc_meaning.specs.Storing.{stored, assigned}
-use Rattle.dc_meaning.specs.Values.{Callee, settled, value, values}
+use Rattle.dc_meaning.specs.Values.{Callee, settled, value}
 use Rattle.dc_meaning.specs.Walking.{state_in}
 use Rattle.dc_meaning.proofs.Performing.{assignment-is}
 use Rattle.dc_meaning.proofs.Valuing.{scalar-value, vector-value, subscript-small}

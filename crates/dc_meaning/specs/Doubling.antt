@@ -1,4 +1,5 @@
--- A program for the tests: `t = i` and `a(i) = t*2` over i from 1 to 3, as the code's tree.
+-- Programs for the tests: `t = i` and `a(i) = t*2` over i from 1 to 3, in this order or in the other, as the
+-- code's trees.
 use Rattle.std.specs.Prelude.{ℕ, false, List, [], ◌∷◌, Some, None, codes, ℤ, pos}
 use Rattle.dc_int.specs.declared.kind.Kind.{Kind}
 use Rattle.dc_tree.specs.declared.expr.Expr.{Expr, Number, Name, Binary}
@@ -47,5 +48,6 @@ close = record { line = 6; stmt = Stmt.EndDo None }
 abbrev pub block : List Node → Block
 block nodes = roll-Block (record { nodes = nodes })
 
-abbrev pub filling : Node
-filling = Loop head (block (first ∷ second ∷ [])) close
+-- a loop over these statements
+abbrev pub filling : List Node → Node
+filling nodes = Loop head (block nodes) close

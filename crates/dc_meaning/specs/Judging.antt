@@ -7,7 +7,7 @@ use Rattle.dc_int.specs.Store.{Store}
 use Rattle.dc_code.specs.declared.verdict.Verdict as answers
 use Rattle.dc_code.specs.Loops.{Passage, Parts, alone, Ordered, order, closed}
 use Rattle.dc_code.specs.Troubles.{ended}
-use Rattle.dc_code.specs.Verdicts.{Verdict, go_on, in_iteration, bad_iteration, verdict, seen}
+use Rattle.dc_code.specs.Verdicts.{Verdict, go_on, in_iteration, race, bad_iteration, verdict, seen}
 use Rattle.dc_tree.specs.Blocks.{Items, items}
 use Rattle.dc_tree.specs.Entities.{Scope, main_scope}
 use Rattle.dc_tree.specs.SecondForm.{are_small_symbols, is_small_loop, with_index}
@@ -15,6 +15,7 @@ use Rattle.dc_tree.specs.Statements.{statement}
 use Rattle.dc_meaning.specs.declared.stop.Stop.{Stop}
 use Rattle.dc_meaning.specs.declared.task.Task.{Task}
 use Rattle.dc_meaning.specs.declared.judge.Bad as code
+use Rattle.dc_meaning.specs.declared.judge.Told.{Told}
 use Rattle.dc_meaning.specs.Actions as actions
 use Rattle.dc_meaning.specs.Alone.{index_name, trouble_of}
 use Rattle.dc_meaning.specs.Execution.{exec_all}
@@ -69,6 +70,10 @@ pub record IsOne (passage : Passage) (n : ℕ) (before after : Marks) (met : Opt
 
 abbrev pub combination : ℤ → List ℤ
 combination z = z ∷ []
+
+-- A race that was found, as a verdict.
+abbrev pub told_of : Told → Verdict
+told_of told = race told.race (combination told.first) (combination told.second)
 
 abbrev pub alone_passages : Parts → Store → List ℤ → List Passage
 alone_passages parts store active = map (λ z. alone parts store (combination z)) active

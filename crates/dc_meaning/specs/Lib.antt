@@ -13,8 +13,10 @@ pub mod Marks
 pub mod Numbering
 pub mod Pairing
 pub mod Places
+pub mod PlainVerdicts
 pub mod Plainly
 pub mod Programs
+pub mod Showing
 pub mod Standing
 pub mod Storing
 pub mod Telling

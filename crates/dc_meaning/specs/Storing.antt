@@ -1,10 +1,7 @@
 -- How an assignment stores its value and an output item is read, as the walker goes about it. This project's own.
 use Rattle.std.specs.Prelude.{ℕ, List, map, Option, ℤ}
 use Rattle.std.specs.List.{range_with_len}
-use Rattle.dc_int.specs.declared.kind.Kind.{Kind}
-use Rattle.dc_int.specs.Sorts.{fitted, whole}
-use Rattle.dc_code.specs.Troubles as troubles
-use Rattle.dc_code.specs.Troubles.{Piece}
+use Rattle.dc_int.specs.Sorts.{fitted}
 use Rattle.dc_tree.specs.Entities.{Entity, Scope}
 use Rattle.dc_tree.specs.Syntax.{Tree}
 use Rattle.dc_tree.specs.Typing.{sort_of_entity}
@@ -31,13 +28,3 @@ places_from variable count position = map (λ p. outer (record { variable = vari
 
 abbrev pub filled : ℕ → ℕ → ℤ → ℕ → ℕ → Act Flow
 filled line variable value count position = for_each (λ place. acts.store line place value) (places_from variable count position) >> just on
-
--- ---- output
-
--- The values of so many elements, from a position on.
-abbrev pub referred_from : ℕ → ℕ → ℕ → ℕ → Act (List ℤ)
-referred_from line variable count position = for_each (acts.refer_to line) (places_from variable count position)
-
--- Values of kind 4 as pieces of an output line.
-abbrev pub pieces_of : List ℤ → List Piece
-pieces_of values = map (troubles.value (whole Kind.K4)) values

@@ -1,5 +1,5 @@
 -- How definitions see what the walker holds.
-use Rattle.std.specs.Prelude.{List, [], ◌∷◌, ◌++◌, take, drop, Option, Some, if◌then◌else◌, ℤ}
+use Rattle.std.specs.Prelude.{List, [], ◌∷◌, ◌++◌, flat_map, take, drop, Option, Some, if◌then◌else◌, ℤ}
 use Rattle.std.specs.List.{list_any}
 use Rattle.dc_int.specs.declared.access.ElementId.{ElementId}
 use Rattle.dc_int.specs.Entries.{Entry, Reads, Defines, Undefines}
@@ -25,6 +25,10 @@ store_with (symbol ∷ rest) states = by symbol.role (store_with rest)
     by (roles.Role.Variable logical kind bounds initial) others =
         record { bounds = Some bounds; cells = take (stores.elements_in bounds) states } ∷ others (drop (stores.elements_in bounds) states)
     by role others = others states
+
+-- The states of all elements of a store, in store order.
+abbrev pub states_in : stores.Store → List (Option ℤ)
+states_in store = flat_map (λ (variable : stores.Variable). variable.cells) store
 
 -- The touched elements after one more entry.
 abbrev pub more_seen : List ElementId → Entry → List ElementId

@@ -4,11 +4,13 @@ ghost use Rattle.dc_int.specs.Store.{value_at, put_at, with_cell, number_in};
 ghost use Rattle.dc_meaning.specs.Marks as judge;
 ghost use Rattle.dc_meaning.specs.MarkViews.{marks_of, FitStore};
 ghost use Rattle.dc_meaning.specs.Walking.{noted};
-ghost use Rattle.dc_meaning.specs.Views.{variable_of, entry_of, store_with};
+ghost use Rattle.dc_meaning.specs.Views.{variable_of, entry_of, store_with, states_in};
+ghost use Rattle.dc_meaning.specs.Programs.{first_store};
 ghost use Rattle.dc_tree.specs.SecondForm.{are_small_symbols};
 
+use crate::beginning::undefined_variables;
 use crate::closing::forget_touched_twice;
-use crate::listing::{accesses, contributions, touches};
+use crate::listing::{accesses, contributions, states, touches};
 use crate::marks::{Mark, blank_marks};
 use crate::note::{Note, Variable};
 use crate::opening::{variable_with, variables_with};
@@ -42,6 +44,16 @@ impl Cells {
         ensures { IfOk result (λ made. made ≡ record { store = store_with symbols.now opening.now; entries = [] }) }
     {
         let variables = variables_with(alloc, symbols.as_slice(), opening)?;
+        let notes = DcList::new(alloc);
+        Ok(Cells { variables, notes })
+    }
+
+    /// The variables of a program, whose elements are all undefined.
+    pub fn undefined(alloc: Global, symbols: &Symbols) -> Result<Cells, NoMemory>
+        requires { IsTrue (are_small_symbols symbols.now) }
+        ensures { IfOk result (λ made. made ≡ record { store = first_store symbols.now; entries = [] }) }
+    {
+        let variables = undefined_variables(alloc, symbols.as_slice())?;
         let notes = DcList::new(alloc);
         Ok(Cells { variables, notes })
     }
@@ -84,6 +96,13 @@ impl Cells {
             variables,
             notes: DcList::new(alloc),
         })
+    }
+
+    /// The states of all elements, in store order. `None` is undefined.
+    pub(crate) fn states(&self, alloc: Global) -> Result<DcList<Option<i64>>, NoMemory>
+        ensures { IfOk result (λ made. made ≡ states_in (self.now).store) }
+    {
+        states(alloc, self.variables.as_slice())
     }
 
     /// What was done so far.

@@ -4,7 +4,7 @@ ghost use Rattle.std.specs.Prelude.{◌≡◌, ◌≤◌, [], ◌∷◌, length,
 ghost use Rattle.dc_code.specs.Loops.{Parts, alone, order, closed};
 ghost use Rattle.dc_code.specs.Troubles.{ended};
 ghost use Rattle.dc_code.specs.Verdicts.{seen, in_iteration, race_in, race_among};
-ghost use Rattle.dc_meaning.specs.Judging.{IsDone, IsOne, IsTask, IsMarked, IsOrdered, IsJudged, combination, runs_of, bad_of};
+ghost use Rattle.dc_meaning.specs.Judging.{IsDone, IsOne, IsTask, IsMarked, IsOrdered, IsJudged, combination, runs_of, bad_of, told_of};
 ghost use Rattle.dc_meaning.specs.Marks.{blank_marks, marked_runs};
 ghost use Rattle.dc_meaning.specs.MarkViews.{marks_of, FitStore};
 ghost use Rattle.dc_meaning.specs.Plainly.{plain};
@@ -27,6 +27,14 @@ pub(crate) struct Bad {
     pub iteration: u32,
     pub why: Why,
     pub line: u32,
+}
+
+/// A race, with the values of the index in its two iterations.
+#[derive(Clone, Copy, Debug, PartialEq, Eq)]
+pub(crate) struct Told {
+    pub race: Race,
+    pub first: i64,
+    pub second: i64,
 }
 
 /// Runs one iteration over the cells. They note what it does, and nothing else.
@@ -63,7 +71,7 @@ fn mark_one(
 }
 
 /// Runs each iteration alone, up to the first that doesn't end well, and marks what each does.
-fn mark_alone(
+pub(crate) fn mark_alone(
     alloc: Global,
     task: Task<'_>,
     opening: &Cells,
@@ -171,10 +179,10 @@ fn race_of_pair(
     opening: &Cells,
     active: &[i64],
     named: Named,
-) -> Result<Option<Verdict>, NoMemory>
+) -> Result<Option<Told>, NoMemory>
     ghost parts: { Parts }
     requires { IsTask parts task }
-    ensures { IfOk result (λ said. option_map seen said ≡ between_plain parts (opening.now).store (map combination active.now) (named.first, named.second)) }
+    ensures { IfOk result (λ told. option_map told_of told ≡ between_plain parts (opening.now).store (map combination active.now) (named.first, named.second)) }
 {
     let Some(first) = value_of(active, named.first) else {
         return Ok(None);
@@ -185,28 +193,38 @@ fn race_of_pair(
     let Some(race) = replay(alloc, task, opening, named, first, second)? else {
         return Ok(None);
     };
-    let first_at = single(alloc, first)?;
-    let second_at = single(alloc, second)?;
-    Ok(Some(Verdict::Race {
+    Ok(Some(Told {
         race,
-        first_at,
-        second_at,
+        first,
+        second,
     }))
 }
 
+fn race_told(alloc: Global, told: Told) -> Result<Verdict, NoMemory>
+    ensures { IfOk result (λ said. seen said ≡ told_of told) }
+{
+    let first_at = single(alloc, told.first)?;
+    let second_at = single(alloc, told.second)?;
+    Ok(Verdict::Race {
+        race: told.race,
+        first_at,
+        second_at,
+    })
+}
+
 /// The race that the marks name, if they name one.
-fn race_verdict(
+pub(crate) fn race_among(
     alloc: Global,
     task: Task<'_>,
     opening: &Cells,
     active: &[i64],
     rows: &[Vec<Mark>],
-) -> Result<Option<Verdict>, NoMemory>
+) -> Result<Option<Told>, NoMemory>
     ghost parts: { Parts }
     requires task { IsTask parts task }
     requires fit { FitStore rows.now }
     requires marks { marks_of rows.now ≡ marked_runs 0 (runs_of parts (opening.now).store active.now) (blank_marks (opening.now).store) }
-    ensures { IfOk result (λ said. option_map seen said ≡ race_among parts (opening.now).store (map combination active.now) (runs_of parts (opening.now).store active.now)) }
+    ensures { IfOk result (λ told. option_map told_of told ≡ race_among parts (opening.now).store (map combination active.now) (runs_of parts (opening.now).store active.now)) }
 {
     match first_named(rows) {
         Some(named) => race_of_pair(alloc, task, opening, active, named),
@@ -215,7 +233,12 @@ fn race_verdict(
 }
 
 /// Leaves the closing values of the iterations in this order.
-fn go_on(alloc: Global, task: Task<'_>, cells: &mut Cells, active: &[i64]) -> Result<(), NoMemory>
+pub(crate) fn go_on(
+    alloc: Global,
+    task: Task<'_>,
+    cells: &mut Cells,
+    active: &[i64],
+) -> Result<(), NoMemory>
     ghost parts: { Parts }
     requires task { IsTask parts task }
     requires few { length active.now ≤ 4194304 }
@@ -248,8 +271,11 @@ fn judge_marked(
     requires well { bad_of parts (cells.old).store active.now ≡ None }
     ensures { IfOk result (λ said. IsJudged parts (cells.old).store active.now (cells.new).store said) }
 {
-    match race_verdict(alloc, task, cells, active, rows)? {
-        Some(verdict) => Ok(verdict),
+    match race_among(alloc, task, cells, active, rows)? {
+        Some(told) => {
+            let said = race_told(alloc, told)?;
+            Ok(said)
+        }
         None => {
             go_on(alloc, task, cells, active)?;
             Ok(Verdict::GoOn)

@@ -1,11 +1,11 @@
-ghost use Rattle.std.specs.Prelude.{◌≡◌, map, Some, None, IfOk, OnOk};
+ghost use Rattle.std.specs.Prelude.{◌≡◌, ◌++◌, map, Some, None, IfOk, OnOk};
 ghost use Rattle.std.specs.List.{list_any};
 ghost use Rattle.dc_int.specs.Entries as entries;
 ghost use Rattle.dc_int.specs.Entries.{accesses_of, contributions_of, touched_of, state_after};
 ghost use Rattle.dc_int.specs.Store as stores;
-ghost use Rattle.dc_meaning.specs.Views.{entry_of, more_seen};
+ghost use Rattle.dc_meaning.specs.Views.{entry_of, more_seen, states_in, variable_of};
 
-use crate::note::Note;
+use crate::note::{Note, Variable};
 use dc_int::{Access, Action, Contribution, ElementId, Touch};
 use dc_text::{DcList, NoMemory};
 use std::alloc::Global;
@@ -142,4 +142,24 @@ pub(crate) fn touches(alloc: Global, notes: &[Note]) -> Result<DcList<Touch>, No
 {
     let elements = touched(alloc, notes)?;
     last_states(alloc, notes, elements.as_slice())
+}
+
+fn add_states(made: &mut DcList<Option<i64>>, states: &[Option<i64>]) -> Result<(), NoMemory>
+    ensures { OnOk result (made.new ≡ made.old ++ states.now) }
+{
+    for state in states {
+        made.push(*state)?;
+    }
+    Ok(())
+}
+
+/// The states of all elements of these variables, in store order.
+pub(crate) fn states(alloc: Global, variables: &[Variable]) -> Result<DcList<Option<i64>>, NoMemory>
+    ensures { IfOk result (λ made. made ≡ states_in (map variable_of variables.now)) }
+{
+    let mut made = DcList::new(alloc);
+    for variable in variables {
+        add_states(&mut made, variable.cells.as_slice())?;
+    }
+    Ok(made)
 }

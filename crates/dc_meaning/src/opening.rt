@@ -11,7 +11,7 @@ use dc_tree::{Role, Symbol};
 use std::alloc::Global;
 
 /// How many elements a variable has.
-fn size_of(bounds: &[(i64, i64)]) -> usize
+pub(crate) fn size_of(bounds: &[(i64, i64)]) -> usize
     requires { IsTrue (are_small_bounds bounds.now) }
     ensures { result ≡ elements_in bounds.now }
 {

@@ -4,8 +4,9 @@ ghost use Rattle.dc_tree.specs.declared.token.Mark.{Mark};
 ghost use Rattle.dc_tree.specs.Symbols.{symbol_at};
 ghost use Rattle.dc_meaning.specs.Doubling.{declared, digit, first, second, head, block, filling, t_a_and_i};
 
-use crate::alone;
-use dc_int::{Access, Action as Deed, ElementId, Kind, Touch};
+use crate::{PlainVerdict, alone, plain_verdict};
+use dc_code::{Party, Race};
+use dc_int::{Access, Action as Deed, ElementId, FaultKind, Kind, Touch, Why};
 use dc_text::{DcBox, DcList, DcText, NoMemory};
 use dc_tree::{
     Action, Block, Expr, Index, Lined, Mark, Node, Program, Role, Stmt, Suffix, Symbol, Symbols,
@@ -106,22 +107,22 @@ fn concurrent(alloc: Global) -> Result<Stmt, NoMemory>
     })
 }
 
-fn filling(alloc: Global) -> Result<Node, NoMemory>
-    ensures { IfOk result (λ node. node ≡ filling) }
+fn two(alloc: Global, before: Node, after: Node) -> Result<DcList<Node>, NoMemory>
+    ensures { IfOk result (λ nodes. nodes ≡ before ∷ after ∷ []) }
 {
-    let mut nodes = one(alloc, first(alloc)?)?;
-    nodes.push(second(alloc)?)?;
-    Ok(Node::Loop {
+    let mut nodes = one(alloc, before)?;
+    nodes.push(after)?;
+    Ok(nodes)
+}
+
+fn program_over(alloc: Global, nodes: DcList<Node>) -> Result<Program, NoMemory>
+    ensures { IfOk result (λ program. (program.body ≡ block (filling nodes ∷ [])) × (program.procedures ≡ [])) }
+{
+    let filling = Node::Loop {
         head: at_line(3, concurrent(alloc)?),
         body: Block { nodes },
         close: at_line(6, Stmt::EndDo(None)),
-    })
-}
-
-fn doubling(alloc: Global) -> Result<Program, NoMemory>
-    ensures { IfOk result (λ program. (program.body ≡ block (filling ∷ [])) × (program.procedures ≡ [])) }
-{
-    let filling = filling(alloc)?;
+    };
     let title = word(alloc, b'p')?;
     Ok(Program {
         head: at_line(1, Stmt::Program(title)),
@@ -133,6 +134,23 @@ fn doubling(alloc: Global) -> Result<Program, NoMemory>
         procedures: DcList::new(alloc),
         close: at_line(7, Stmt::Contains),
     })
+}
+
+fn doubling(alloc: Global) -> Result<Program, NoMemory>
+    ensures { IfOk result (λ program. (program.body ≡ block (filling (first ∷ second ∷ []) ∷ [])) × (program.procedures ≡ [])) }
+{
+    let nodes = two(alloc, first(alloc)?, second(alloc)?)?;
+    let program = program_over(alloc, nodes)?;
+    Ok(program)
+}
+
+/// The same statements in the other order, so that an iteration reads what another defines.
+fn crossing(alloc: Global) -> Result<Program, NoMemory>
+    ensures { IfOk result (λ program. (program.body ≡ block (filling (second ∷ first ∷ []) ∷ [])) × (program.procedures ≡ [])) }
+{
+    let nodes = two(alloc, second(alloc)?, first(alloc)?)?;
+    let program = program_over(alloc, nodes)?;
+    Ok(program)
 }
 
 fn declare(
@@ -208,5 +226,108 @@ fn iteration_is_taken_alone(rt: HostRuntime) -> Result<(), Fail> {
         [touch(0, 1), touch(1, 2)].as_slice()
     );
     assert!(rt; out.contributions.is_empty());
+    Ok(())
+}
+
+fn goes_on(said: &PlainVerdict, expected: &[Option<i64>]) -> bool {
+    match said {
+        PlainVerdict::GoOn { closing } => closing.as_slice() == expected,
+        PlainVerdict::Bad { .. } => false,
+        PlainVerdict::Race(_) => false,
+    }
+}
+
+/// The first iteration is told to end so.
+fn is_bad(said: &PlainVerdict, expected: Why, expected_line: u32) -> bool {
+    match said {
+        PlainVerdict::Bad {
+            iteration,
+            why,
+            line,
+        } => *iteration == 0 && *why == expected && *line == expected_line,
+        PlainVerdict::GoOn { .. } => false,
+        PlainVerdict::Race(_) => false,
+    }
+}
+
+fn is_race(said: &PlainVerdict, expected: Race) -> bool {
+    match said {
+        PlainVerdict::Race(race) => *race == expected,
+        PlainVerdict::GoOn { .. } => false,
+        PlainVerdict::Bad { .. } => false,
+    }
+}
+
+#[test]
+fn temporary_is_no_race(rt: HostRuntime) -> Result<(), Fail> {
+    let program = doubling(rt.alloc())?;
+    let symbols = names(rt.alloc())?;
+    let opening = [None; 5];
+    let said = plain_verdict(
+        rt.alloc(),
+        &program,
+        &symbols,
+        0,
+        1,
+        &[1, 2, 3],
+        &opening,
+        10,
+    )?;
+    let closing = [None, Some(2), Some(4), Some(6), None];
+    assert!(rt; goes_on(&said, &closing));
+    Ok(())
+}
+
+#[test]
+fn read_of_an_undefined_element_is_told(rt: HostRuntime) -> Result<(), Fail> {
+    let program = crossing(rt.alloc())?;
+    let symbols = names(rt.alloc())?;
+    let opening = [None; 5];
+    let said = plain_verdict(
+        rt.alloc(),
+        &program,
+        &symbols,
+        0,
+        1,
+        &[1, 2, 3],
+        &opening,
+        10,
+    )?;
+    assert!(rt; is_bad(&said, Why::Fault(FaultKind::Undefined), 5));
+    Ok(())
+}
+
+#[test]
+fn read_of_what_another_iteration_defines_is_a_race(rt: HostRuntime) -> Result<(), Fail> {
+    let program = crossing(rt.alloc())?;
+    let symbols = names(rt.alloc())?;
+    let opening = [Some(7), None, None, None, None];
+    let said = plain_verdict(
+        rt.alloc(),
+        &program,
+        &symbols,
+        0,
+        1,
+        &[1, 2, 3],
+        &opening,
+        10,
+    )?;
+    let race = Race {
+        element: ElementId {
+            variable: 0,
+            position: 0,
+        },
+        first: Party {
+            iteration: 0,
+            action: Deed::Defines,
+            line: 4,
+        },
+        second: Party {
+            iteration: 2,
+            action: Deed::Reads,
+            line: 5,
+        },
+    };
+    assert!(rt; is_race(&said, race));
     Ok(())
 }

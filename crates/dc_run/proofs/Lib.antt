@@ -1,3 +1,4 @@
+pub mod Beginnings
 mod CallRows
 mod ExpressionRows
 pub mod Extents
@@ -6,12 +7,17 @@ pub mod IndexLists
 mod InnerRows
 mod InputRows
 mod LoopRows
+pub mod LoopSteps
+pub mod NamedBounds
 mod OrderRows
 pub mod Played
 mod RaceRows
+pub mod Remaining
 mod ReportLineExamples
 mod Rows
 mod StatementRows
+pub mod Stepping
 pub mod Subscripts
 pub mod Telling
 mod VisitRows
+pub mod Visited

@@ -1,11 +1,9 @@
 -- A main program that is run step by step.
-use Rattle.std.proofs.Common.{◌≡◌, ℕ, List, [], ◌∷◌, ◌++◌, refl, sym, ap, ◌∙◌}
-use Rattle.std.specs.Prelude.{ℤ, pos, Some, None, if◌then◌else◌, Bool, true, false, nat_le, Result, Ok, Err, Option}
-use Rattle.dc_int.specs.declared.access.ElementId.{ElementId}
-use Rattle.dc_int.specs.Sorts.{Sort}
-use Rattle.dc_int.specs.Store.{Store, value_at, put_at, bounds_of}
-use Rattle.dc_code.specs.Computation.{Computation, give, fail, read, define, undefine, contribute, ask, pause, sequence, Run, Reached, done, bad, paused, over, ended, behind}
-use Rattle.dc_code.specs.Troubles.{Failure, Computing, Event, Slots}
+use Rattle.std.proofs.Common.{◌≡◌, refl}
+use Rattle.std.specs.Prelude.{Some, None}
+use Rattle.dc_int.specs.Store.{value_at, put_at, bounds_of}
+use Rattle.dc_code.specs.Computation.{give, fail, read, define, undefine, contribute, ask, pause, sequence, Run, Reached, done, bad, paused, over}
+use Rattle.dc_code.specs.Troubles.{Failure, Computing, Event}
 use Rattle.dc_run.specs.Playing.{Outcome, Standing, Looping, ends_with, answered, with_store, played}
 use Rattle.dc_run.specs.ReportLine as endings
 

@@ -6,11 +6,15 @@ use Rattle.dc_int.specs.declared.access.ElementId.{ElementId}
 use Rattle.dc_int.specs.Store.{Bounds, elements_in}
 use Rattle.dc_code.specs.declared.verdict.Verdict as answers
 use Rattle.dc_code.specs.declared.verdict.Race.{Race}
-use Rattle.dc_code.specs.Troubles.{Trouble, ended, masked, raced}
+use Rattle.dc_code.specs.Inner.{judging}
+use Rattle.dc_code.specs.Troubles.{ended, masked, raced}
 use Rattle.dc_code.specs.Verdicts.{seen, side}
 use Rattle.dc_tree.specs.declared.symbols.Role.{Role}
 use Rattle.dc_tree.specs.declared.symbols.Symbol.{Symbol}
+use Rattle.dc_tree.specs.Blocks.{Source}
 use Rattle.dc_run.specs.declared.ending.Ending as endings
+use Rattle.dc_run.specs.declared.running.RunOut.{RunOut}
+use Rattle.dc_run.specs.Playing.{run}
 use Rattle.dc_run.specs.ReportLine.{Ending, done, bad, stopped, is_outside, outside_names, side_text, trouble_text}
 
 -- The variable of the main program that an element is of.
@@ -34,6 +38,12 @@ abbrev pub ending_of : List Symbol → endings.Ending → Ending
 ending_of symbols endings.Ending.Done = done
 ending_of symbols (endings.Ending.Bad why line) = bad (record { why = why; line = line })
 ending_of symbols (endings.Ending.Stopped verdict) = stopped (seen verdict) (bounds_named symbols verdict)
+
+-- What the code answers for a program is what its run writes and how it ends, with so many turns and no
+-- input.
+pub record IsRunOf (symbols : List Symbol) (source : Source) (turns : ℕ) (out : RunOut) : Type 0 where
+  pub output : out.output ≡ (run judging symbols source turns []).output
+  pub ending : ending_of symbols out.ending ≡ (run judging symbols source turns []).ending
 
 -- An element that a race names is one of its variable's, which has no more than the greatest number of
 -- elements.

@@ -1,3 +1,5 @@
 pub mod Answered
 pub mod Playing
 pub mod ReportLine
+pub mod Running
+pub mod Sample

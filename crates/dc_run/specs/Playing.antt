@@ -6,10 +6,10 @@ use Rattle.dc_int.specs.declared.fault.FaultKind.{FaultKind}
 use Rattle.dc_int.specs.declared.fault.Why.{Why}
 use Rattle.dc_int.specs.Sorts.{Sort}
 use Rattle.dc_int.specs.Store.{Bounds, Store, value_at, put_at, bounds_of}
-use Rattle.dc_code.specs.Computation.{Computation, give, fail, read, define, undefine, contribute, ask, pause}
+use Rattle.dc_code.specs.Computation.{give, fail, read, define, undefine, contribute, ask, pause}
 use Rattle.dc_code.specs.Inner.{Rule, parts, greatest_depth}
-use Rattle.dc_code.specs.Troubles.{Failure, Trouble, raced, Computing, Slots, Piece, value, text, Event, write_line, take_value, take_elements, end_reading, enter_loop, stop}
-use Rattle.dc_code.specs.Verdicts.{Verdict, go_on, at_header, in_iteration, race}
+use Rattle.dc_code.specs.Troubles.{Trouble, raced, Computing, Slots, Piece, value, text, Event, write_line, take_value, take_elements, end_reading, enter_loop, stop}
+use Rattle.dc_code.specs.Verdicts.{Verdict, go_on, in_iteration, race}
 use Rattle.dc_code.specs.Visits.{Visited, visited}
 use Rattle.dc_lists.specs.Input as input
 use Rattle.dc_lists.specs.Output.{written, line_of}

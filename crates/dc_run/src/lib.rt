@@ -4,7 +4,13 @@
 mod ending;
 mod law;
 mod report;
+mod running;
+mod writing;
 
 pub use ending::Ending;
 pub use law::subscripts_lead_back;
 pub use report::ending_line;
+pub use running::{RunOut, run_program};
+
+#[cfg(test)]
+mod tests;

@@ -41,9 +41,7 @@ returns g c =
     let second : slice_get active c.args.named.second ≡ Some s = search rules in
     let first_is : to_z w64 (of_z w64 f) ≡ f = search rules in
     let second_is : to_z w64 (of_z w64 s) ≡ s = search rules in
-    let first_at : c.in_ok-first_at.first_at ≡ combination f = search rules in
-    let second_at : c.in_ok-second_at.second_at ≡ combination s = search rules in
-    (λ i. Some (race c.in-Some-2.race (first_at i) (second_at i)))
+    (λ i. Some (race c.in-Some-2.race (combination (first_is i)) (combination (second_is i))))
     ∙ ap (option_and_then (λ (r : Race). Some (race r (combination f) (combination s)))) (sym c.in-Some-2.is)
     ∙ found g.parts c.args.opening.now.store active (c.args.named.first, c.args.named.second) f s (to_z w64 (of_z w64 f)) (to_z w64 (of_z w64 s)) c.in_ok-race.field-0
     first second first_is second_is c.in_ok-race.ensures

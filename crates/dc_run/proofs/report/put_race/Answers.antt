@@ -2,7 +2,7 @@ use Rattle.std.proofs.Common.{rules, ◌≡◌, ◌++◌, ◌∙◌, ap, List, �
 use Rattle.std.specs.Prelude.{codes}
 use Rattle.std.proofs.lemmas.List.{append_assoc}
 use Rattle.std.proofs.lemmas.Result.{on_ok_weaker}
-use Rattle.dc_run.specs.Answered.{variable_of, declared_bounds, sides_text, race_text}
+use Rattle.dc_run.specs.Answered.{variable_of, declared_bounds, sides_text}
 use Rattle.dc_run.specs.ReportLine.{outside_names, element}
 use Rattle.dc_run.proofs.report.put_race.Goals as goal
 

@@ -1,0 +1,53 @@
+-- Where a run begins, and what it comes to.
+use Rattle.std.proofs.Common.{◌≡◌, ℕ, true, ◌&&◌, List, [], length, sym, ap, subst, ◌∙◌, arith}
+use Rattle.std.proofs.lemmas.Bool.{and_parts}
+use Rattle.dc_code.specs.Computation.{SameShape}
+use Rattle.dc_code.specs.Inner.{judging}
+use Rattle.dc_tree.specs.declared.symbols.Symbol.{Symbol}
+use Rattle.dc_tree.specs.Blocks.{Source}
+use Rattle.dc_tree.specs.Entities.{main_scope}
+use Rattle.dc_tree.specs.SecondForm.{are_small_symbols, has_no_procedures, are_small_items, is_second_form}
+use Rattle.dc_meaning.specs.Programs.{first_store, surroundings, program_forms}
+use Rattle.dc_meaning.specs.Walking.{View}
+use Rattle.dc_run.specs.declared.ending.Ending as code
+use Rattle.dc_run.specs.declared.running.Standing as standings
+use Rattle.dc_run.specs.Answered.{IsRunOf}
+use Rattle.dc_run.specs.Playing.{played, run}
+use Rattle.dc_run.specs.Running.{Told, told_behind, IsUsual, loop_in, looping_in, AreVisitable, rest_of, EndsSo}
+use Rattle.dc_meaning.proofs.Visitable.{visitable}
+use Rattle.dc_run.proofs.Visited.{same-shape}
+
+pub small-parts : (symbols : List Symbol) (source : Source) → is_second_form symbols source ≡ true → (are_small_symbols symbols ≡ true) × (are_small_items (main_scope symbols) source.body ≡ true)
+small-parts symbols source small =
+    let both = and_parts (are_small_symbols symbols) (has_no_procedures source && are_small_items (main_scope symbols) source.body) small in
+    (both.0, (and_parts (has_no_procedures source) (are_small_items (main_scope symbols) source.body) both.1).1)
+
+pub are-visitable : (symbols : List Symbol) (source : Source) (turns : ℕ) → is_second_form symbols source ≡ true → AreVisitable (program_forms symbols source turns) symbols source.body
+unfolding loop_in
+are-visitable symbols source turns small = record { each = λ number head block at. visitable symbols source turns number head block small at }
+
+abbrev pub beginning : View → List ℕ → standings.Standing
+beginning cells output = record { cells = cells; output = output; loops = 0 }
+
+abbrev pub first-view : List Symbol → View
+first-view symbols = record { store = first_store symbols; entries = [] }
+
+pub begins : (symbols : List Symbol) (cells : View) (output : List ℕ) → cells ≡ first-view symbols → output ≡ [] → IsUsual symbols (beginning cells output)
+begins symbols cells output is none =
+    let long : length output ≡ 0 = ap length none in
+    record {
+      shape = subst (λ (v : View). SameShape (first_store symbols) v.store) (sym is) (same-shape (first_store symbols));
+      room = omega (arith, long);
+    }
+
+pub comes-to : (symbols : List Symbol) (source : Source) (turns : ℕ) (cells : View) (output : List ℕ) (after : standings.Standing) (ending : code.Ending) → cells ≡ first-view symbols → output ≡ []
+    → EndsSo (program_forms symbols source turns) symbols (main_scope symbols) source.body (beginning cells output) after ending
+    → IsRunOf symbols source turns (record { output = after.output; ending = ending })
+comes-to symbols source turns cells output after ending is none ends =
+    let scope = main_scope symbols in
+    let call = (surroundings symbols source turns).call in
+    let start : told_behind output (played (looping_in (program_forms symbols source turns)) (record { store = cells.store; input = []; used = length output }) (rest_of scope call turns 0 source.body))
+    ≡ told_behind [] (run judging symbols source turns [])
+    = λ i. told_behind (none i) (played (looping_in (program_forms symbols source turns)) (record { store = (is i).store; input = []; used = length (none i) }) (rest_of scope call turns 0 source.body)) in
+    let same = sym (ends.is call turns) ∙ start in
+    record { output = ap (λ (t : Told). t.output) same; ending = ap (λ (t : Told). t.ending) same }

@@ -1,0 +1,134 @@
+-- A loop leaves the elements of a store, and the bounds of its variables.
+use Rattle.std.proofs.Common.{◌≡◌, ℕ, zero, suc, Bool, true, false, cond, List, [], ◌∷◌, ◌++◌, map, drop, Option, Some, None, refl, sym, ap, subst, ◌∙◌}
+use Rattle.std.specs.Prelude.{ℤ, pos, is_none}
+use Rattle.dc_int.specs.Entries.{Defines, Undefines, store_after_entry}
+use Rattle.dc_int.specs.Store.{Store, value_at, bounds_of}
+use Rattle.dc_code.specs.declared.verdict.Verdict as answers
+use Rattle.dc_code.specs.Closing.{changes}
+use Rattle.dc_code.specs.Computation.{give, fail, read, define, undefine, contribute, ask, pause, Reached, done, bad, paused, over, SameShape}
+use Rattle.dc_code.specs.Inner.{Forms, judging, parts, greatest_depth, added, up_to_bad, inner, told_by}
+use Rattle.dc_code.specs.Loops.{Parts, alone, Passage, Orders, Opened, opened, Ordered, order, joined, nothing_done}
+use Rattle.dc_code.specs.Orders.{as_ordered}
+use Rattle.dc_code.specs.Passages.{Entering, ended_well, behind, through}
+use Rattle.dc_code.specs.Troubles.{Trouble, Slots, Computing, Event, write_line, take_value, take_elements, end_reading, enter_loop, stop}
+use Rattle.dc_code.specs.Verdicts.{Verdict, go_on, at_header, in_iteration, race, verdict, trouble_in, seen}
+use Rattle.dc_code.specs.Visits.{Visited, visited, visited_by}
+use Rattle.dc_code.proofs.Runs.{replayed}
+use Rattle.dc_code.proofs.Stores.{shape-after, shape-then}
+use Rattle.dc_meaning.specs.Visiting.{visit_of, IsVisit}
+use Rattle.dc_run.specs.Running.{loop_in, KeepsShape}
+
+pub same-shape : (store : Store) → SameShape store store
+same-shape store = record { elements = λ x. refl; bounds = λ variable. refl }
+
+-- ---- a block
+
+abbrev Keeps : Entering → Type 0
+Keeps enter = (number turns : ℕ) (slots : Slots) (store : Store) (orders : Orders) → SameShape store (enter number turns slots store orders).store
+
+through-shape : (enter : Entering) → Keeps enter → (store : Store) (orders : Orders) (c : Computing ℕ) → SameShape store (through enter store orders c).store
+through-shape enter keeps store orders (give turns) = same-shape store
+through-shape enter keeps store orders (fail failure) = same-shape store
+through-shape enter keeps store orders (read x line rest) = through-shape enter keeps store orders (rest (value_at store x))
+through-shape enter keeps store orders (define x value line rest) =
+    let after = store_after_entry (Defines x value line) store in
+    shape-then store after (through enter after orders rest).store (shape-after (Defines x value line ∷ []) store) (through-shape enter keeps after orders rest)
+through-shape enter keeps store orders (undefine x line rest) =
+    let after = store_after_entry (Undefines x line) store in
+    shape-then store after (through enter after orders rest).store (shape-after (Undefines x line ∷ []) store) (through-shape enter keeps after orders rest)
+through-shape enter keeps store orders (contribute x op value rest) = through-shape enter keeps store orders rest
+through-shape enter keeps store orders (ask variable rest) = through-shape enter keeps store orders (rest (bounds_of store variable))
+through-shape enter keeps store orders (pause (enter_loop number turns slots) rest) =
+    let passage = enter number turns slots store orders in
+    let next = through enter passage.store passage.orders (rest (pos passage.turns)) in
+    by passage next (keeps number turns slots store orders) (through-shape enter keeps passage.store passage.orders (rest (pos passage.turns))) (is_none passage.trouble)
+  where
+    by : (passage next : Passage) → SameShape store passage.store → SameShape passage.store next.store → (b : Bool) → SameShape store (cond b (behind passage.entries next) passage).store
+    by passage next first second true = shape-then store passage.store next.store first second
+    by passage next first second false = first
+through-shape enter keeps store orders (pause (write_line line pieces) rest) = through-shape enter keeps store orders (rest (pos 0))
+through-shape enter keeps store orders (pause (take_value line sort) rest) = through-shape enter keeps store orders (rest (pos 0))
+through-shape enter keeps store orders (pause (take_elements line sort elements) rest) = through-shape enter keeps store orders (rest (pos 0))
+through-shape enter keeps store orders (pause (end_reading line items) rest) = through-shape enter keeps store orders (rest (pos 0))
+through-shape enter keeps store orders (pause stop rest) = through-shape enter keeps store orders (rest (pos 0))
+
+-- ---- a loop inside
+
+opened-shape : (loop : Parts) (turns : ℕ) (store : Store) → SameShape store (over store (opened loop.form turns)).store
+opened-shape loop turns store =
+    let run = over store (opened loop.form turns) in
+    subst (SameShape store) (sym (replayed store (opened loop.form turns))) (shape-after run.entries store)
+
+told-shape : (loop : Parts) (store : Store) (orders : Orders) (opening : Opened) (trouble : Option Trouble) → SameShape store (told_by loop store orders opening trouble).store
+told-shape loop store orders opening (Some trouble) = shape-after (added loop.form.line (up_to_bad (map (alone loop store) opening.iterations))) store
+told-shape loop store orders opening None =
+    let ordered = order loop (drop 1 orders) store (as_ordered orders opening.iterations) in
+    shape-after (added loop.form.line ordered.runs ++ changes loop.form.known loop.form.line ordered.runs ordered.store) store
+
+inner-shape : (loop : Parts) (turns : ℕ) (store : Store) (orders : Orders) → SameShape store (inner judging loop turns store orders).store
+inner-shape loop turns store orders = by (over store (opened loop.form turns)).reached refl
+  where
+    after : Store
+    after = (over store (opened loop.form turns)).store
+
+    by : (reached : Reached Event Trouble Opened) → (over store (opened loop.form turns)).reached ≡ reached → SameShape store (inner judging loop turns store orders).store
+    by (done opening) e =
+        let told = told_by loop after orders opening (trouble_in (verdict loop after opening.iterations)) in
+        rw e (shape-then store after told.store (opened-shape loop turns store) (told-shape loop after orders opening (trouble_in (verdict loop after opening.iterations))))
+    by (bad trouble) e = rw e (opened-shape loop turns store)
+    by (paused event rest) e = rw e (opened-shape loop turns store)
+
+-- ---- iterations
+
+parts-shape : (forms : Forms) (depth number : ℕ) (slots : Slots) (store : Store) (orders : Orders) (at : List ℤ) → SameShape store ((parts judging forms depth number slots).block store orders at).store
+parts-shape forms zero number slots store orders at =
+    let form = forms number slots in
+    through-shape (λ inside turns around before left. ended_well before turns left) (λ inside turns around before left. same-shape before) store orders (form.block (map (value_at store) form.copied) at)
+parts-shape forms (suc depth) number slots store orders at =
+    let form = forms number slots in
+    through-shape (λ inside turns around before left. inner judging (parts judging forms depth inside around) turns before left)
+    (λ inside turns around before left. inner-shape (parts judging forms depth inside around) turns before left) store orders (form.block (map (value_at store) form.copied) at)
+
+pub loop-keeps : (forms : Forms) (number : ℕ) → KeepsShape (loop_in forms number)
+unfolding loop_in
+loop-keeps forms number = record { each = λ store orders at. parts-shape forms greatest_depth number [] store orders at }
+
+order-shape : (loop : Parts) → KeepsShape loop → (orders : Orders) (store : Store) (iterations : List (List ℤ)) → SameShape store (order loop orders store iterations).store
+order-shape loop keeps orders store [] = same-shape store
+order-shape loop keeps orders store (at ∷ rest) =
+    let passage = loop.block store orders at in
+    by passage (order loop passage.orders passage.store rest) (keeps.each store orders at) (order-shape loop keeps passage.orders passage.store rest) (is_none passage.trouble)
+  where
+    by : (passage : Passage) (later : Ordered) → SameShape store passage.store → SameShape passage.store later.store → (b : Bool)
+        → SameShape store (joined passage (cond b later (nothing_done passage.store passage.orders passage.trouble))).store
+    by passage later first second true = shape-then store passage.store later.store first second
+    by passage later first second false = first
+
+-- ---- a loop of the main program
+
+said-shape : (loop : Parts) → KeepsShape loop → (store : Store) (opening : Opened) (said : Verdict) → SameShape store (visited_by loop store opening said).store
+said-shape loop keeps store opening go_on =
+    let ordered = order loop [] store opening.iterations in
+    shape-then store ordered.store _ (order-shape loop keeps [] store opening.iterations) (shape-after (changes loop.form.known loop.form.line ordered.runs ordered.store) ordered.store)
+said-shape loop keeps store opening (at_header trouble) = same-shape store
+said-shape loop keeps store opening (in_iteration trouble at) = same-shape store
+said-shape loop keeps store opening (race found first second) = same-shape store
+
+visited-shape : (loop : Parts) → KeepsShape loop → (turns : ℕ) (store : Store) → SameShape store (visited judging loop turns store).store
+visited-shape loop keeps turns store = by (over store (opened loop.form turns)).reached refl
+  where
+    by : (reached : Reached Event Trouble Opened) → (over store (opened loop.form turns)).reached ≡ reached → SameShape store (visited judging loop turns store).store
+    by (done opening) e = rw e (said-shape loop keeps store opening (verdict loop store opening.iterations))
+    by (bad trouble) e = rw e (same-shape store)
+    by (paused event rest) e = rw e (same-shape store)
+
+visit-store : (said : Verdict) (after : Store) → (visit_of said after 0).store ≡ after
+visit-store go_on after = refl
+visit-store (at_header trouble) after = refl
+visit-store (in_iteration trouble at) after = refl
+visit-store (race found first second) after = refl
+
+-- What a visit leaves.
+pub left-shape : (loop : Parts) → KeepsShape loop → (before after : Store) (said : answers.Verdict) → IsVisit loop before after said → SameShape before after
+left-shape loop keeps before after said visit =
+    subst (SameShape before) (ap (λ (found : Visited). found.store) (visit.is 0) ∙ visit-store (seen said) after) (visited-shape loop keeps 0 before)

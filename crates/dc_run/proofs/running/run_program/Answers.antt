@@ -1,0 +1,14 @@
+use Rattle.std.proofs.Common.{refl}
+use Rattle.dc_tree.specs.Blocks.{source_of}
+use Rattle.dc_run.proofs.Beginnings.{small-parts, are-visitable, begins, comes-to}
+use Rattle.dc_run.proofs.running.run_program.Goals as goal
+
+pub run_body-requires : goal.run_body-requires
+run_body-requires g c =
+    let source = source_of c.args.program.now in
+    let parts = small-parts c.args.symbols.now source c.requires in
+    (parts.0, (parts.1, (are-visitable c.args.symbols.now source g.turns c.requires, (begins c.args.symbols.now c.in_ok-cells.cells c.new-output.result c.in_ok-cells.ensures c.new-output.ensures, refl))))
+
+pub returns : goal.returns
+returns g c =
+    comes-to c.args.symbols.now (source_of c.args.program.now) g.turns c.in_ok-cells.cells c.new-output.result c.run_body.new.standing c.in_ok-ending.ending c.in_ok-cells.ensures c.new-output.ensures c.in_ok-ending.ensures
