@@ -12,6 +12,7 @@ pub mod Looping
 pub mod Marking
 pub mod Naming
 pub mod Numerals
+pub mod Own
 pub mod Passing
 pub mod Performing
 pub mod Quiet

@@ -89,12 +89,12 @@ position-by line bounds subscripts (Some position) is = rw is (just-quiet positi
 position-by line bounds subscripts None is = rw is (wrong-quiet FaultKind.Subscript line)
 
 -- A variable of the main program, or a group of slots.
-abbrev is_placed : Entity → Bool
+abbrev pub is_placed : Entity → Bool
 is_placed (outside variable sort bounds) = true
 is_placed (slots group sort bounds) = true
 is_placed other = false
 
-scalar-placed : (e : Entity) → is_scalar e ≡ true → is_placed e ≡ true
+pub scalar-placed : (e : Entity) → is_scalar e ≡ true → is_placed e ≡ true
 scalar-placed (outside variable sort bounds) e = refl
 scalar-placed (slots group sort bounds) e = refl
 scalar-placed (dummy place sort) e = cc
@@ -104,7 +104,7 @@ scalar-placed (subroutine procedure intents) e = cc
 scalar-placed (reduction variable op sort bounds) e = cc
 scalar-placed nothing e = cc
 
-vector-placed : (e : Entity) → is_vector e ≡ true → is_placed e ≡ true
+pub vector-placed : (e : Entity) → is_vector e ≡ true → is_placed e ≡ true
 vector-placed (outside variable sort bounds) e = refl
 vector-placed (slots group sort bounds) e = cc
 vector-placed (dummy place sort) e = cc
@@ -205,7 +205,7 @@ places-quiet scope call line text (Some (t ∷ [])) e =
     each-quiet-one quiet = both-quiet quiet (λ a. both-quiet (just-quiet []) (λ others. just-quiet (a ∷ others)))
 places-quiet scope call line text (Some (t ∷ second ∷ rest)) e = cc
 
-target-placed : (scope : Scope) (text : Name) (subscripts : Option (List Tree)) → is_small_target scope false (record { name = text; subscripts = subscripts }) ≡ true
+pub target-placed : (scope : Scope) (text : Name) (subscripts : Option (List Tree)) → is_small_target scope false (record { name = text; subscripts = subscripts }) ≡ true
     → (is_outside_scalar (entity scope text) || is_vector (entity scope text)) ≡ true
 target-placed scope text None e = by (is_outside_scalar (entity scope text)) e
   where

@@ -97,31 +97,31 @@ module _ (within : Surroundings) (symbols : List Symbol) (loop : Concurrent) (no
 
 module _ (symbols : List Symbol) (source : Source) (turns number : ℕ) (head : Line) (block : Items) (form : is_second_form symbols source ≡ true)
     (is : Some (head, block) ≡ nth_loop number source.body) where
-  abbrev within : Surroundings
+  abbrev pub within : Surroundings
   within = surroundings symbols source turns
 
-  at : LoopAt (main_scope symbols) (loops-in symbols source turns) number head block
+  pub at : LoopAt (main_scope symbols) (loops-in symbols source turns) number head block
   at = loop-at symbols source form number turns head block is
 
-  abbrev found : Concurrent
+  abbrev pub found : Concurrent
   found = small-concurrent (main_scope symbols) at.counted head block at.small.ranging
 
-  form-here : program_forms symbols source turns number [] ≡ form_of within found []
+  pub form-here : program_forms symbols source turns number [] ≡ form_of within found []
   form-here = form-is symbols source turns number (Some found) at.at
 
-  scope-small : is_small_block (with_index (main_scope symbols) (index_name head.says)) block ≡ true
+  pub scope-small : is_small_block (with_index (main_scope symbols) (index_name head.says)) block ≡ true
   scope-small = ap (λ s. is_small_block (with_index (main_scope symbols) (index_name s)) block) at.small.is ∙ at.small.block
 
-  block-plain : (z : ℤ) → NeverPauses (block_alone symbols source number (z ∷ []) turns)
+  pub block-plain : (z : ℤ) → NeverPauses (block_alone symbols source number (z ∷ []) turns)
   block-plain z =
       subst (λ (c : Computing ℕ). NeverPauses c) (sym (ap (λ (f : Form). f.block [] (z ∷ [])) form-here ∙ block-form within symbols at.counted head block at.small z))
       (frame-quiet ((Some z ∷ []) ∷ []) within.turns (exec_all (with_index (main_scope symbols) (index_name head.says)) within.call (suc at.counted) block) (λ flow left. left)
       (block-quiet (with_index (main_scope symbols) (index_name head.says)) within.call (suc at.counted) block scope-small))
 
-  abbrev entering : Entering
+  abbrev pub entering : Entering
   entering inside left around here orders = inner judging (parts judging (program_forms symbols source turns) 63 inside around) left here orders
 
-  passage-is : (store : Store) (z : ℤ) → (loop_parts symbols source turns number).block store [] (z ∷ []) ≡ through entering store [] (block_alone symbols source number (z ∷ []) turns)
+  pub passage-is : (store : Store) (z : ℤ) → (loop_parts symbols source turns number).block store [] (z ∷ []) ≡ through entering store [] (block_alone symbols source number (z ∷ []) turns)
   passage-is store z = λ i. through entering store [] ((program_forms symbols source turns number []).block (map (value_at store) (no-copies symbols source form number turns i)) (z ∷ []))
 
   runs-by : IsRunBy (loop_parts symbols source turns number) (with_index (main_scope symbols) (index_name head.says)) block

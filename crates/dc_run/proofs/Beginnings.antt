@@ -15,6 +15,7 @@ use Rattle.dc_run.specs.Answered.{IsRunOf}
 use Rattle.dc_run.specs.Playing.{played, run}
 use Rattle.dc_run.specs.Running.{Told, told_behind, IsUsual, loop_in, looping_in, AreVisitable, rest_of, EndsSo}
 use Rattle.dc_meaning.proofs.Visitable.{visitable}
+use Rattle.dc_run.proofs.Owned.{accesses-own}
 use Rattle.dc_run.proofs.Visited.{same-shape}
 
 pub small-parts : (symbols : List Symbol) (source : Source) → is_second_form symbols source ≡ true → (are_small_symbols symbols ≡ true) × (are_small_items (main_scope symbols) source.body ≡ true)
@@ -24,7 +25,7 @@ small-parts symbols source small =
 
 pub are-visitable : (symbols : List Symbol) (source : Source) (turns : ℕ) → is_second_form symbols source ≡ true → AreVisitable (program_forms symbols source turns) symbols source.body
 unfolding loop_in
-are-visitable symbols source turns small = record { each = λ number head block at. visitable symbols source turns number head block small at }
+are-visitable symbols source turns small = record { each = λ number head block at. (visitable symbols source turns number head block small at, accesses-own symbols source turns number head block small at) }
 
 abbrev pub beginning : View → List ℕ → standings.Standing
 beginning cells output = record { cells = cells; output = output; loops = 0 }

@@ -10,6 +10,7 @@ mod LoopRows
 pub mod LoopSteps
 pub mod NamedBounds
 mod OrderRows
+pub mod Owned
 pub mod Played
 mod RaceRows
 pub mod Remaining

@@ -35,7 +35,7 @@ use Rattle.dc_run.specs.declared.running.Standing as standings
 use Rattle.dc_run.specs.Answered.{bounds_named}
 use Rattle.dc_run.specs.Playing.{Standing, Outcome, Looping, bounds_in, visits_loop, played}
 use Rattle.dc_run.specs.ReportLine as endings
-use Rattle.dc_run.specs.Running.{Told, at_of, told_behind, told_after, Steps, name_in, printed, stopped_by, looping_in, loop_in, RunsSo}
+use Rattle.dc_run.specs.Running.{Told, at_of, told_behind, told_after, MeetsOwn, Steps, name_in, printed, stopped_by, looping_in, loop_in, RunsSo}
 use Rattle.dc_run.proofs.Stepping.{nothing-more, steps-as}
 
 -- ---- a visit
@@ -59,12 +59,13 @@ module _ (looping : Looping) (symbols : List Symbol) (before : standings.Standin
   said-told (answers.Verdict.Race found first second) bounds = nothing-more before.output _ ∙ ap (λ b. record { output = before.output; ending = endings.stopped (seen (answers.Verdict.Race found first second)) b }) bounds
 
 pub steps-loop : (looping : Looping) (symbols : List Symbol) (before : standings.Standing) (after : View) (parts : Parts) (said : answers.Verdict) (loops : ℕ) → RunsSo looping before.loops parts
-    → IsVisit parts before.cells.store after.store said → bounds_in before.cells.store (seen said) ≡ bounds_named symbols said
+    → IsVisit parts before.cells.store after.store said → bounds_in before.cells.store (seen said) ≡ bounds_named symbols said → MeetsOwn symbols (stopped_by said)
     → Steps looping symbols before (behind-visit before after loops) (λ call. concurrent_do before.loops) (stopped_by said)
-steps-loop looping symbols before after parts said loops runs visit bounds =
+steps-loop looping symbols before after parts said loops runs visit bounds own =
     record {
       is = λ call turns next.
           ap (visit-told looping symbols before after loops turns next) (runs.is turns before.cells.store ∙ visit.is turns) ∙ said-told looping symbols before after loops turns next said bounds;
+      own = own;
     }
 
 pub runs-so : (forms : Forms) (place : ℕ) → RunsSo (looping_in forms) place (loop_in forms place)

@@ -24,10 +24,10 @@ use Rattle.dc_meaning.proofs.Storing.{goes_on}
 use Rattle.dc_meaning.proofs.Walking.{seen-run, sequence-then, acts-then, walks-as, walks-bad}
 use Rattle.dc_run.specs.declared.ending.Ending as code
 use Rattle.dc_run.specs.declared.running.Standing as standings
-use Rattle.dc_run.specs.Answered.{ending_of}
+use Rattle.dc_run.specs.Answered.{ending_of, NamesOwn}
 use Rattle.dc_run.specs.Playing.{Outcome, Looping, greatest_output, piece_text, writes, behind_output, fails_with, played}
 use Rattle.dc_run.specs.ReportLine as endings
-use Rattle.dc_run.specs.Running.{IsWritten, numbers_line, at_of, Told, told_behind, told_after, Steps, IsEndBy, IsUsual}
+use Rattle.dc_run.specs.Running.{IsWritten, numbers_line, at_of, Told, told_behind, told_after, MeetsOwn, Steps, IsEndBy, IsUsual}
 use Rattle.dc_run.proofs.Played.{played-then, resumed_from}
 
 -- ---- what was seen is what is played
@@ -62,6 +62,7 @@ steps-on {act = act} looping symbols before after walks =
     record {
       is = λ call turns next.
           ap (told_behind before.output) (seen-played looping before after (act call (state_in [] turns)) (done (on, state_in [] turns)) next (walks.answers call turns));
+      own = tt;
     }
 
 pub nothing-more : (written : List ℕ) (ending : endings.Ending) → ◌≡◌ {A = Told} (record { output = written ++ []; ending = ending }) (record { output = written; ending = ending })
@@ -76,6 +77,7 @@ steps-bad {act = act} looping symbols before after (Stop.Failed why line) met wa
           ap (told_behind before.output) (seen-played looping before after (act call (state_in [] turns)) (bad (record { why = why; line = line })) next (walks.answers call turns))
           ∙ nothing-more before.output (endings.bad (record { why = why; line = line }))
           ∙ ap (told_after looping symbols (moved before after) (next (on, state_in [] turns))) (sym is);
+      own = subst (MeetsOwn symbols) (sym is) tt;
     }
 steps-bad looping symbols before after Stop.NoMemory met walks is = absurd is
 
@@ -85,6 +87,7 @@ steps-as looping symbols before after met same steps =
     record {
       is = λ call turns next.
           ap (λ a. told_behind before.output (played looping (at_of before) (sequence (a (state_in [] turns)) next))) (same call) ∙ steps.is call turns next;
+      own = steps.own;
     }
 
 -- ---- what stays
@@ -147,6 +150,10 @@ module _ (looping : Looping) (symbols : List Symbol) (before : standings.Standin
       ∙ nothing-more before.output (endings.bad (record { why = Why.Fault FaultKind.OutputFull; line = line }))
       ∙ (λ i. record { output = sym is i; ending = ending_of symbols (sym ends i) })
 
+written-own : (symbols : List Symbol) (line : ℕ) (bytes before output : List ℕ) (met : Option code.Ending) → IsWritten line bytes before output met → MeetsOwn symbols met
+written-own symbols line bytes before output None written = tt
+written-own symbols line bytes before output (Some ending) (full, (is, ends)) = subst (NamesOwn symbols) (sym ends) tt
+
 -- an output statement whose item has values
 pub steps-print : (looping : Looping) (symbols : List Symbol) (before : standings.Standing) (after : View) (scope : Scope) (line : ℕ) (tree : Tree) (zs : List ℤ) (output : List ℕ) (met : Option code.Ending)
     → Walks all-pieces [] before.cells (λ call. pieces scope call line tree) after (Ok zs) → IsWritten line (numbers_line zs) before.output output met
@@ -165,6 +172,7 @@ steps-print looping symbols before after scope line tree zs output met walks wri
           (writes (record { store = after.store; input = []; used = length before.output }) line (line_of texts) (λ then_at told. played looping then_at (next (on, state_in [] turns)))))
           (pieces-text zs)
           ∙ output-step looping symbols before after line (numbers_line zs) output (next (on, state_in [] turns)) met written;
+      own = written-own symbols line (numbers_line zs) before.output output met written;
     }
 
 -- an item that isn't defined
@@ -210,4 +218,5 @@ steps-fresh {act = act} looping symbols before after cells met same steps =
     record {
       is = λ call turns next.
           ap (λ (v : View). told_behind before.output (played looping (record { store = v.store; input = []; used = length before.output }) (sequence (act call (state_in [] turns)) next))) (sym same) ∙ steps.is call turns next;
+      own = steps.own;
     }

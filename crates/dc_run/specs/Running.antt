@@ -3,10 +3,12 @@ use Rattle.std.specs.Prelude.{◌≡◌, ◌≤◌, ◌<◌, ℕ, ◌+◌, List,
 use Rattle.std.specs.Fmt.{signed_decimal}
 use Rattle.dc_int.specs.declared.fault.FaultKind.{FaultKind}
 use Rattle.dc_int.specs.declared.fault.Why.{Why}
+use Rattle.dc_int.specs.declared.access.Access.{Access}
 use Rattle.dc_int.specs.Store.{Store}
 use Rattle.dc_code.specs.declared.verdict.Verdict as answers
 use Rattle.dc_code.specs.Computation.{sequence, SameShape}
 use Rattle.dc_code.specs.Inner.{Forms, judging, parts, greatest_depth}
+use Rattle.dc_code.specs.Laws.{Made}
 use Rattle.dc_code.specs.Loops.{Parts, Orders}
 use Rattle.dc_code.specs.Troubles.{Computing}
 use Rattle.dc_code.specs.Visits.{visited}
@@ -22,13 +24,14 @@ use Rattle.dc_meaning.specs.Acts.{State, Act}
 use Rattle.dc_meaning.specs.Alone.{nth_loop}
 use Rattle.dc_meaning.specs.Execution.{exec_all}
 use Rattle.dc_meaning.specs.Headers.{inside_frame}
+use Rattle.dc_meaning.specs.Judging.{combination}
 use Rattle.dc_meaning.specs.Programs.{first_store}
 use Rattle.dc_meaning.specs.Values.{Callee}
 use Rattle.dc_meaning.specs.Visiting.{IsVisitable}
 use Rattle.dc_meaning.specs.Walking.{state_in}
 use Rattle.dc_run.specs.declared.ending.Ending as code
 use Rattle.dc_run.specs.declared.running.Standing as standings
-use Rattle.dc_run.specs.Answered.{ending_of}
+use Rattle.dc_run.specs.Answered.{ending_of, variable_of, declared_bounds, IsThere, NamesOwn}
 use Rattle.dc_run.specs.Playing.{Outcome, Standing, Looping, greatest_output, played}
 use Rattle.dc_run.specs.ReportLine.{Ending}
 
@@ -73,13 +76,19 @@ abbrev pub told_after : Looping → List Symbol → standings.Standing → Compu
 told_after looping symbols after next None = told_behind after.output (played looping (at_of after) next)
 told_after looping symbols after next (Some ending) = record { output = after.output; ending = ending_of symbols ending }
 
+-- Where the run ends here by a race, its element is there.
+abbrev pub MeetsOwn : List Symbol → Option code.Ending → Type 0
+MeetsOwn symbols None = Unit {0}
+MeetsOwn symbols (Some ending) = NamesOwn symbols ending
+
 -- What a statement does to a run, whatever a call does and whatever follows: the run goes on behind it, or
--- it ends.
+-- it ends. A race that ends it names an element that is there.
 pub record Steps (looping : Looping) (symbols : List Symbol) (before after : standings.Standing) (act : Callee → Act Flow) (met : Option code.Ending) : Type 0 where
   pub is
       : (call : Callee) (turns : ℕ) (next : Flow × State → Computing Unit)
       → told_behind before.output (played looping (at_of before) (sequence (act call (state_in [] turns)) next))
       ≡ told_after looping symbols after (next (on, state_in [] turns)) met
+  pub own : MeetsOwn symbols met
 
 -- A statement that isn't carried out ends the run.
 abbrev pub IsEndBy : Stop → Option code.Ending → Type 0
@@ -115,26 +124,34 @@ looping_in forms number slots left store = visited judging (parts judging forms 
 pub record RunsSo (looping : Looping) (number : ℕ) (loop : Parts) : Type 0 where
   pub is : (turns : ℕ) (store : Store) → looping number [] turns store ≡ visited judging loop turns store
 
--- Where this is a loop, it can be visited as the one of this number.
+-- The accesses of an iteration alone are of elements that are there.
+pub record AccessesOwn (symbols : List Symbol) (loop : Parts) : Type 0 where
+  pub each
+      : (store : Store) (z : ℤ) (access : Access) → Made access (loop.block store [] (combination z)).entries
+      → IsThere (declared_bounds (variable_of symbols access.element)) access.element.position
+
+-- Where this is a loop, it can be visited as the one of this number, which accesses elements that are there.
 abbrev pub IsVisitableAt : Forms → List Symbol → ℕ → Item → Type 0
-IsVisitableAt forms symbols number (loop head block close) = IsVisitable (loop_in forms number) symbols head.says block
+IsVisitableAt forms symbols number (loop head block close) = IsVisitable (loop_in forms number) symbols head.says block × AccessesOwn symbols (loop_in forms number)
 IsVisitableAt forms symbols number other = Unit
 
 -- An iteration leaves the elements of the store, and the bounds of its variables.
 pub record KeepsShape (loop : Parts) : Type 0 where
   pub each : (store : Store) (orders : Orders) (at : List ℤ) → SameShape store (loop.block store orders at).store
 
--- The loops of a main program can be visited.
+-- The loops of a main program can be visited, and access elements that are there.
 pub record AreVisitable (forms : Forms) (symbols : List Symbol) (items : Items) : Type 0 where
-  pub each : (number : ℕ) (head : Line) (block : Items) → nth_loop number items ≡ Some (head, block) → IsVisitable (loop_in forms number) symbols head.says block
+  pub each : (number : ℕ) (head : Line) (block : Items) → nth_loop number items ≡ Some (head, block) → IsVisitable (loop_in forms number) symbols head.says block × AccessesOwn symbols (loop_in forms number)
 
 -- The rest of a main program.
 abbrev pub rest_of : Scope → Callee → ℕ → ℕ → Items → Computing Unit
 rest_of scope call turns number items = inside_frame [] turns (exec_all scope call number items) (λ flow left. tt)
 
--- A run of these statements that begins here, with a number of loops before it, ends so.
+-- A run of these statements that begins here, with a number of loops before it, ends so. A race that ends it
+-- names an element that is there.
 pub record EndsSo (forms : Forms) (symbols : List Symbol) (scope : Scope) (items : Items) (before after : standings.Standing) (ending : code.Ending) : Type 0 where
   pub is
       : (call : Callee) (turns : ℕ)
       → told_behind before.output (played (looping_in forms) (at_of before) (rest_of scope call turns before.loops items))
       ≡ record { output = after.output; ending = ending_of symbols ending }
+  pub own : NamesOwn symbols ending

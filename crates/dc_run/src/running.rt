@@ -14,9 +14,9 @@ ghost use Rattle.dc_tree.specs.Syntax.{tree};
 ghost use Rattle.dc_meaning.specs.Actions as actions;
 ghost use Rattle.dc_meaning.specs.Execution as execution;
 ghost use Rattle.dc_meaning.specs.Visiting.{IsVisitable};
-ghost use Rattle.dc_run.specs.Answered.{IsRunOf};
+ghost use Rattle.dc_run.specs.Answered.{IsRunOf, NamesOwn};
 ghost use Rattle.dc_run.specs.Playing.{Looping};
-ghost use Rattle.dc_run.specs.Running.{name_in, printed, IsEndBy, stopped_by, Steps, IsUsual, IsCounted, RunsSo, KeepsShape, IsVisitableAt, AreVisitable, EndsSo, looping_in};
+ghost use Rattle.dc_run.specs.Running.{name_in, printed, IsEndBy, stopped_by, Steps, IsUsual, IsCounted, RunsSo, KeepsShape, AccessesOwn, IsVisitableAt, AreVisitable, EndsSo, looping_in};
 
 use crate::ending::Ending;
 use crate::writing::write_line;
@@ -166,6 +166,7 @@ fn run_loop(
     ghost parts: { Parts }
     requires visitable { IsVisitable parts symbols.now (statement head.now) (items body.now) }
     requires keeps { KeepsShape parts }
+    requires owns { AccessesOwn symbols.now parts }
     requires usual { IsUsual symbols.now standing.old }
     requires counted { IsCounted standing.old }
     ensures steps { (looping : Looping) → RunsSo looping (standing.old).loops parts → IfOk result (λ met. Steps looping symbols.now standing.old standing.new (λ call. execution.concurrent_do (standing.old).loops) met) }
@@ -247,7 +248,8 @@ fn run_body(
 pub fn run_program(alloc: Global, program: &Program, symbols: &Symbols) -> Result<RunOut, NoMemory>
     ghost turns: { ℕ }
     requires { IsTrue (is_second_form symbols.now (source_of program.now)) }
-    ensures { IfOk result (λ out. IsRunOf symbols.now (source_of program.now) turns out) }
+    ensures is { IfOk result (λ out. IsRunOf symbols.now (source_of program.now) turns out) }
+    ensures owns { IfOk result (λ out. NamesOwn symbols.now out.ending) }
 {
     let cells = Cells::undefined(alloc, symbols)?;
     let output = DcText::new(alloc);

@@ -40,6 +40,7 @@ returns-in-Some g c =
       is = λ call turns.
           sym (i.left call turns) ∙ ap (told-of (looping_in g.forms) c.loop-node.standing scope call turns c.loop-node.standing.loops) next
           ∙ rest-ended (looping_in g.forms) c.args.symbols.now scope c.loop-node.standing c.step.new.standing (item c.node-item.result) rest call turns c.in-Some.ending steps;
+      own = steps.own;
     }
 
 pub loop-node-preserved : goal.loop-node-preserved
