@@ -3,3 +3,5 @@
 
 #[cfg(test)]
 mod first_form;
+#[cfg(test)]
+mod second_form;
