@@ -36,7 +36,7 @@ pub use assignment::perform;
 pub use cells::Cells;
 pub use iteration::alone;
 pub use law::what_is_seen_is_a_run;
-pub use plain::{PlainVerdict, plain_verdict};
+pub use plain::{PlainVerdict, has_loop, plain_verdict};
 pub use showing::values_of;
 pub use stop::Stop;
 pub use visits::visit;

@@ -1,8 +1,9 @@
 //! A loop of a program, judged by itself over given states.
 
-ghost use Rattle.std.specs.Prelude.{◌≡◌, ◌≤◌, length, None, IfOk};
+ghost use Rattle.std.specs.Prelude.{◌≡◌, ◌≤◌, length, is_some, None, IfOk};
 ghost use Rattle.dc_code.specs.Loops.{Parts};
 ghost use Rattle.dc_tree.specs.Blocks.{source_of};
+ghost use Rattle.dc_meaning.specs.Alone.{nth_loop};
 ghost use Rattle.dc_meaning.specs.Judging.{IsTask, bad_of, runs_of};
 ghost use Rattle.dc_meaning.specs.Marks.{blank_marks, marked_runs};
 ghost use Rattle.dc_meaning.specs.MarkViews.{marks_of, FitStore};
@@ -94,6 +95,13 @@ fn told_of_loop(
             Ok(said)
         }
     }
+}
+
+/// Whether a program has a loop of this number, counted from 0 in the order of the text.
+pub fn has_loop(program: &Program, construct: u32) -> bool
+    ensures { result ≡ is_some (nth_loop construct (source_of program.now).body) }
+{
+    nth_loop(program.body.nodes.as_slice(), construct).is_some()
 }
 
 /// Judges a loop of a program over a store of these states, by what each of its iterations does alone.

@@ -4,4 +4,6 @@
 #[cfg(test)]
 mod first_form;
 #[cfg(test)]
+mod plain_judge;
+#[cfg(test)]
 mod second_form;
