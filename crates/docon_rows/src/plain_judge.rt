@@ -40,6 +40,9 @@ const SHIFTED: &str =
 const TEMPORARY: &str =
     "program p\ninteger :: a(3), t, i\ndo concurrent (i = 1:3)\n  t = i\n  a(i) = t*2\nend do\nend program p\n";
 
+const CLEARED: &str =
+    "program p\ninteger :: a(4), i\ndo concurrent (i = 3:3)\n  a(i) = 0\nend do\nend program p\n";
+
 fn goes_on(said: &Option<PlainVerdict>, expected: &[Option<i64>]) -> bool {
     match said {
         Some(PlainVerdict::GoOn { closing }) => closing.as_slice() == expected,
@@ -111,6 +114,15 @@ fn temporary_is_undefined_behind_more_iterations_than_one(rt: HostRuntime) -> Re
     assert!(rt; goes_on(&said, &closing));
     let said = judged(rt.alloc(), TEMPORARY.as_bytes(), &[1], &opening)?;
     let closing = [Some(2), None, None, Some(1), None];
+    assert!(rt; goes_on(&said, &closing));
+    Ok(())
+}
+
+#[test]
+fn one_iteration_leaves_other_elements_as_they_are(rt: HostRuntime) -> Result<(), Fail> {
+    let opening = [Some(1), Some(2), Some(7), Some(3), None];
+    let said = judged(rt.alloc(), CLEARED.as_bytes(), &[3], &opening)?;
+    let closing = [Some(1), Some(2), Some(0), Some(3), None];
     assert!(rt; goes_on(&said, &closing));
     Ok(())
 }
