@@ -17,7 +17,7 @@ use Rattle.dc_tree.specs.declared.token.Suffix.{Suffix}
 use Rattle.dc_tree.specs.Blocks.{Item, and_then, items_from, line_of, item, items, source_of}
 use Rattle.dc_tree.specs.Entities.{Entity, outside, Scope, entity, entity_in, symbols_in, outer_names, main_scope}
 use Rattle.dc_tree.specs.Literals.{number_of}
-use Rattle.dc_tree.specs.SecondForm as small
+use Rattle.dc_tree.specs.SmallPrograms as small
 use Rattle.dc_tree.specs.Statements.{statement, act, print}
 use Rattle.dc_tree.specs.Syntax as syntax
 use Rattle.dc_tree.specs.Syntax.{Tree, name, refer, binary, no_args, arg, tree}
@@ -440,7 +440,7 @@ behind-declaring vs [] more texts each = (texts, each)
 behind-declaring vs (w ∷ ws) more [] each = absurd each
 behind-declaring vs (w ∷ ws) more (text ∷ texts) each = (texts, each.1)
 
-form-small : (f : Form) (texts : List (List ℕ)) → Each (IsLine f.variables) (lines_of f) texts → is_form f ≡ true → small.is_second_form (symbols_of f.variables) (source_of (program_of f)) ≡ true
+form-small : (f : Form) (texts : List (List ℕ)) → Each (IsLine f.variables) (lines_of f) texts → is_form f ≡ true → small.is_small_program (symbols_of f.variables) (source_of (program_of f)) ≡ true
 form-small f [] each formed = absurd each
 form-small f (text ∷ texts) each formed =
     let vs = f.variables in
@@ -461,8 +461,8 @@ form-small f (text ∷ texts) each formed =
     and_from (small.are_small_symbols (symbols_of vs)) _ names body
 
 -- What the second form spells can be run today.
-pub spelled-is_second_form : (text : List ℕ) (program : Program) (symbols : List Symbol) → SpellsSecond text program symbols → small.is_second_form symbols (source_of program) ≡ true
-spelled-is_second_form text program symbols s =
-    ap (λ (list : List Symbol). small.is_second_form list (source_of program)) s.symbols_are
-    ∙ ap (λ (p : Program). small.is_second_form (symbols_of s.form.variables) (source_of p)) s.program_is
+pub spelled-is_small_program : (text : List ℕ) (program : Program) (symbols : List Symbol) → SpellsSecond text program symbols → small.is_small_program symbols (source_of program) ≡ true
+spelled-is_small_program text program symbols s =
+    ap (λ (list : List Symbol). small.is_small_program list (source_of program)) s.symbols_are
+    ∙ ap (λ (p : Program). small.is_small_program (symbols_of s.form.variables) (source_of p)) s.program_is
     ∙ form-small s.form s.lines s.spelled s.formed

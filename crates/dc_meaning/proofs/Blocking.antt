@@ -10,7 +10,7 @@ use Rattle.dc_tree.specs.declared.stmt.Action as code
 use Rattle.dc_tree.specs.declared.stmt.Stmt.{Stmt}
 use Rattle.dc_tree.specs.Blocks.{Item, Items, plain, branch, select, loop, and_then, line_of, item, items_from}
 use Rattle.dc_tree.specs.Entities.{Scope}
-use Rattle.dc_tree.specs.SecondForm.{is_small_assignment, is_small_block}
+use Rattle.dc_tree.specs.SmallPrograms.{is_small_assignment, is_small_block}
 use Rattle.dc_tree.specs.Statements.{deed}
 use Rattle.dc_tree.proofs.Views.{item-Plain}
 use Rattle.dc_meaning.specs.declared.stop.Stop.{Stop}

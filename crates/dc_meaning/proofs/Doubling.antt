@@ -11,7 +11,7 @@ use Rattle.dc_tree.specs.declared.token.Mark.{Mark}
 use Rattle.dc_tree.specs.declared.token.Suffix.{Suffix}
 use Rattle.dc_tree.specs.Blocks as blocks
 use Rattle.dc_tree.specs.Blocks.{Source, Line, Item, Items, none, and_then, plain, items_from, line_of, item, items, subprogram_of, source_of}
-use Rattle.dc_tree.specs.SecondForm.{is_second_form}
+use Rattle.dc_tree.specs.SmallPrograms.{is_small_program}
 use Rattle.dc_tree.specs.Statements as statements
 use Rattle.dc_tree.specs.Syntax.{Tree}
 use Rattle.dc_tree.proofs.Views.{tree-Number, tree-Name, tree-Binary, items-Block, item-Plain, item-Loop}
@@ -77,8 +77,8 @@ crossed-is : items (block (second ∷ first ∷ [])) ≡ crossed
 crossed-is = items-Block (second ∷ first ∷ []) ∙ (λ j. and_then (second-is j) (and_then (first-is j) none))
 
 pub doubling-form : (symbols : List Symbol) (program : Program) → symbols ≡ t_a_and_i → program.body ≡ block (filling (first ∷ second ∷ []) ∷ []) → program.procedures ≡ []
-    → is_second_form symbols (source_of program) ≡ true
-doubling-form symbols program symbols-are body-is procedures-are = λ j. is_second_form (symbols-are j) (source-is program (first ∷ second ∷ []) filled body-is procedures-are filled-is j)
+    → is_small_program symbols (source_of program) ≡ true
+doubling-form symbols program symbols-are body-is procedures-are = λ j. is_small_program (symbols-are j) (source-is program (first ∷ second ∷ []) filled body-is procedures-are filled-is j)
 
 pub doubling-asked : (symbols : List Symbol) (program : Program) (active : List ℤ) → symbols ≡ t_a_and_i → program.body ≡ block (filling (first ∷ second ∷ []) ∷ []) → program.procedures ≡ []
     → length active ≤ 4194304 → IsJudgeable program symbols 0 1 active
@@ -92,7 +92,7 @@ doubling-asked symbols program active symbols-are body-is procedures-are few = r
 pub crossing-asked : (symbols : List Symbol) (program : Program) (active : List ℤ) → symbols ≡ t_a_and_i → program.body ≡ block (filling (second ∷ first ∷ []) ∷ []) → program.procedures ≡ []
     → length active ≤ 4194304 → IsJudgeable program symbols 0 1 active
 crossing-asked symbols program active symbols-are body-is procedures-are few = record {
-  form = λ j. is_second_form (symbols-are j) (source-is program (second ∷ first ∷ []) crossed body-is procedures-are crossed-is j);
+  form = λ j. is_small_program (symbols-are j) (source-is program (second ∷ first ∷ []) crossed body-is procedures-are crossed-is j);
   loop = ap (λ (source : Source). is_some (nth_loop 0 source.body)) (source-is program (second ∷ first ∷ []) crossed body-is procedures-are crossed-is);
   one = refl;
   few = few;

@@ -16,7 +16,7 @@ use Rattle.dc_tree.specs.declared.symbols.Symbol.{Symbol}
 use Rattle.dc_tree.specs.Blocks.{Line, Items}
 use Rattle.dc_tree.specs.Entities.{Scope, entity, main_scope}
 use Rattle.dc_tree.specs.Literals.{number_of}
-use Rattle.dc_tree.specs.SecondForm.{is_limit, is_small_ranging, is_small_block, is_small_loop, with_index}
+use Rattle.dc_tree.specs.SmallPrograms.{is_limit, is_small_ranging, is_small_block, is_small_loop, with_index}
 use Rattle.dc_tree.specs.Statements.{Ranging, concurrent}
 use Rattle.dc_tree.specs.Syntax.{Tree, number, truth, chars, name, refer, paren, unary, binary}
 use Rattle.dc_meaning.specs.Acts.{Act, just, for_each}

@@ -9,7 +9,7 @@ use Rattle.dc_code.specs.Troubles.{ended}
 use Rattle.dc_code.specs.Verdicts.{in_iteration, or_later}
 use Rattle.dc_tree.specs.Blocks.{items}
 use Rattle.dc_tree.specs.Entities.{main_scope}
-use Rattle.dc_tree.specs.SecondForm.{with_index}
+use Rattle.dc_tree.specs.SmallPrograms.{with_index}
 use Rattle.dc_tree.specs.Statements.{statement}
 use Rattle.dc_meaning.specs.declared.stop.Stop.{Stop}
 use Rattle.dc_meaning.specs.declared.task.Task.{Task}

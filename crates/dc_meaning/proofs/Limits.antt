@@ -9,7 +9,7 @@ use Rattle.dc_tree.specs.declared.stmt.Local.{Local}
 use Rattle.dc_tree.specs.Blocks.{Items}
 use Rattle.dc_tree.specs.Entities.{Scope, entity}
 use Rattle.dc_tree.specs.Literals.{number_from, number_of}
-use Rattle.dc_tree.specs.SecondForm.{is_digit, is_numeral, is_limit, is_outside_scalar, is_small_ranging, is_small_block, is_small_loop, with_index}
+use Rattle.dc_tree.specs.SmallPrograms.{is_digit, is_numeral, is_limit, is_outside_scalar, is_small_ranging, is_small_block, is_small_loop, with_index}
 use Rattle.dc_tree.specs.Statements.{Name, TypeForm, Ranging, concurrent, index_ranging}
 use Rattle.dc_tree.specs.Syntax.{Tree, number, tree}
 use Rattle.dc_tree.specs.declared.expr.Expr.{Expr, Number}

@@ -15,7 +15,7 @@ use Rattle.dc_tree.specs.declared.symbols.Symbol.{Symbol}
 use Rattle.dc_tree.specs.Blocks as blocks
 use Rattle.dc_tree.specs.Blocks.{Line, Item, Items, none, and_then, plain, branch, select, item, items, items_from, item_step, items_step, part_step}
 use Rattle.dc_tree.specs.Entities.{Entity, outside, slots, dummy, constant, function, subroutine, reduction, nothing, Scope, entity, main_scope, with_names}
-use Rattle.dc_tree.specs.SecondForm.{with_index, is_scalar, is_outside_scalar, is_limit, is_small_ranging, is_small_block, is_small_loop, are_small_items}
+use Rattle.dc_tree.specs.SmallPrograms.{with_index, is_scalar, is_outside_scalar, is_limit, is_small_ranging, is_small_block, is_small_loop, are_small_items}
 use Rattle.dc_tree.specs.Typing.{sort_of_entity}
 use Rattle.dc_tree.specs.Statements as statements
 use Rattle.dc_tree.specs.Statements.{Name, Ranging, Statement, statement, concurrent}

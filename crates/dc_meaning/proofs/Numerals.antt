@@ -4,7 +4,7 @@ use Rattle.std.specs.List.{list_all}
 use Rattle.std.specs.Prelude.{nat_le}
 use Rattle.std.proofs.lemmas.Bool.{and_parts, leb-true}
 use Rattle.std.proofs.Math.Nat.{pow-le-pow_right}
-use Rattle.dc_tree.specs.SecondForm.{is_numeral, is_digit}
+use Rattle.dc_tree.specs.SmallPrograms.{is_numeral, is_digit}
 
 pub numeral-length : (digits : List ℕ) → is_numeral 9 digits ≡ true → length digits ≤ 9
 numeral-length digits short =

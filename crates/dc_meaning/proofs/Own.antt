@@ -25,7 +25,7 @@ use Rattle.dc_tree.specs.Blocks.{Line, Source, Items, none, and_then, plain, bra
 use Rattle.dc_tree.specs.Entities.{Entity, outside, slots, dummy, constant, function, subroutine, reduction, nothing, Scope, entity, main_scope}
 use Rattle.dc_tree.specs.Intrinsics.{intrinsic}
 use Rattle.dc_tree.specs.Operating.{joined_by}
-use Rattle.dc_tree.specs.SecondForm.{with_index, is_second_form, is_outside_scalar, is_vector, is_sum_or_product, is_small, is_small_subscript, is_small_target, is_small_assignment, is_small_block}
+use Rattle.dc_tree.specs.SmallPrograms.{with_index, is_small_program, is_outside_scalar, is_vector, is_sum_or_product, is_small, is_small_subscript, is_small_target, is_small_assignment, is_small_block}
 use Rattle.dc_tree.specs.Statements as statements
 use Rattle.dc_tree.specs.Statements.{Name, Target, Statement}
 use Rattle.dc_tree.specs.Syntax.{Tree, number, truth, chars, name, refer, paren, unary, binary, no_args, arg}
@@ -340,7 +340,7 @@ module _ (P : ElementId → Type 0) (scope : Scope) (own : (text : Name) → Own
 
 -- ---- an iteration
 
-module _ (P : ElementId → Type 0) (symbols : List Symbol) (source : Source) (turns number : ℕ) (head : Line) (block : Items) (form : is_second_form symbols source ≡ true)
+module _ (P : ElementId → Type 0) (symbols : List Symbol) (source : Source) (turns number : ℕ) (head : Line) (block : Items) (form : is_small_program symbols source ≡ true)
     (is : Some (head, block) ≡ nth_loop number source.body) (own : (text : Name) → OwnEntity P (entity (with_index (main_scope symbols) (index_name head.says)) text)) where
   block-only : (z : ℤ) → Only P Any (block_alone symbols source number (z ∷ []) turns)
   block-only z =

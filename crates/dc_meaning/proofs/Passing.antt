@@ -14,7 +14,7 @@ use Rattle.dc_tree.specs.declared.program.Program.{Program}
 use Rattle.dc_tree.specs.declared.symbols.Symbol.{Symbol}
 use Rattle.dc_tree.specs.Blocks.{Line, Items, Source, source_of}
 use Rattle.dc_tree.specs.Entities.{main_scope}
-use Rattle.dc_tree.specs.SecondForm.{with_index, is_second_form, are_small_symbols, has_no_procedures, are_small_items, is_small_loop}
+use Rattle.dc_tree.specs.SmallPrograms.{with_index, is_small_program, are_small_symbols, has_no_procedures, are_small_items, is_small_loop}
 use Rattle.dc_meaning.specs.declared.alone_out.AloneOut.{AloneOut}
 use Rattle.dc_meaning.specs.declared.stop.Stop.{Stop}
 use Rattle.dc_meaning.specs.Acts.{Act}
@@ -156,7 +156,7 @@ pub form-is : (symbols : List Symbol) (source : Source) (turns number : ℕ) (fo
 form-is symbols source turns number None at = rw at refl
 form-is symbols source turns number (Some found) at = rw at refl
 
-module _ (symbols : List Symbol) (source : Source) (form : is_second_form symbols source ≡ true) (number : ℕ) where
+module _ (symbols : List Symbol) (source : Source) (form : is_small_program symbols source ≡ true) (number : ℕ) where
   items-small : are_small_items (main_scope symbols) source.body ≡ true
   items-small =
       (and_parts (has_no_procedures source) (are_small_items (main_scope symbols) source.body)
@@ -204,7 +204,7 @@ module _ (symbols : List Symbol) (source : Source) (form : is_second_form symbol
 -- ---- an iteration alone
 
 pub alone-tells : (program : Program) (symbols : List Symbol) (number : ℕ) (combination : List ℤ) (opening : List (Option ℤ)) (turns : ℕ) (cells after : View) (z : ℤ) (result : Result (Unit {0}) Stop) (out : AloneOut)
-    → is_second_form symbols (source_of program) ≡ true → cells ≡ record { store = store_with symbols opening; entries = [] } → combination ≡ z ∷ []
+    → is_small_program symbols (source_of program) ≡ true → cells ≡ record { store = store_with symbols opening; entries = [] } → combination ≡ z ∷ []
     → ((turns : ℕ) → Ends cells (block_alone symbols (source_of program) number (z ∷ []) turns) after result) → IsTold after.entries result out
     → Tells (iteration_alone program symbols number combination opening turns) out
 alone-tells program symbols number combination opening turns cells after z result out form cells-is given ends told =

@@ -7,7 +7,7 @@ use Rattle.dc_tree.specs.declared.expr.Expr.{Expr}
 use Rattle.dc_tree.specs.declared.stmt.Action as code
 use Rattle.dc_tree.specs.declared.stmt.Target as code_targets
 use Rattle.dc_tree.specs.Entities.{Entity, outside, slots, dummy, constant, function, subroutine, reduction, nothing, Scope, entity}
-use Rattle.dc_tree.specs.SecondForm.{is_vector, is_outside_scalar, is_small, is_small_subscript, is_small_target, is_small_assignment}
+use Rattle.dc_tree.specs.SmallPrograms.{is_vector, is_outside_scalar, is_small, is_small_subscript, is_small_target, is_small_assignment}
 use Rattle.dc_tree.specs.Statements as statements
 use Rattle.dc_tree.specs.Statements.{Name, Target, target_of, deed}
 use Rattle.dc_tree.specs.Syntax.{Tree, tree}

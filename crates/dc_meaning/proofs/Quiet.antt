@@ -17,7 +17,7 @@ use Rattle.dc_tree.specs.Blocks.{Items, none, and_then, plain, branch, select}
 use Rattle.dc_tree.specs.Entities.{Entity, outside, slots, dummy, constant, function, subroutine, reduction, nothing, Scope, entity}
 use Rattle.dc_tree.specs.Intrinsics.{intrinsic}
 use Rattle.dc_tree.specs.Operating.{joined_by}
-use Rattle.dc_tree.specs.SecondForm.{is_scalar, is_outside_scalar, is_vector, is_sum_or_product, is_small, is_small_subscript, is_small_target, is_small_assignment, is_small_block}
+use Rattle.dc_tree.specs.SmallPrograms.{is_scalar, is_outside_scalar, is_vector, is_sum_or_product, is_small, is_small_subscript, is_small_target, is_small_assignment, is_small_block}
 use Rattle.dc_tree.specs.Statements as statements
 use Rattle.dc_tree.specs.Statements.{Name, Target, Statement}
 use Rattle.dc_tree.specs.Syntax.{Tree, number, truth, chars, name, refer, paren, unary, binary, no_args, arg}

@@ -14,7 +14,7 @@ use Rattle.dc_int.specs.Store.{elements_in}
 use Rattle.dc_code.specs.Troubles.{Slots}
 use Rattle.dc_tree.specs.declared.expr.Expr.{Expr}
 use Rattle.dc_tree.specs.Entities.{Entity, outside, Scope, entity}
-use Rattle.dc_tree.specs.SecondForm.{is_vector, is_small, is_small_subscript, is_small_target}
+use Rattle.dc_tree.specs.SmallPrograms.{is_vector, is_small, is_small_subscript, is_small_target}
 use Rattle.dc_tree.specs.Statements.{Name}
 use Rattle.dc_tree.specs.Syntax.{Tree, tree}
 use Rattle.dc_meaning.specs.declared.stop.Stop.{Stop}

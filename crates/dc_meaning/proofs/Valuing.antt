@@ -13,7 +13,7 @@ use Rattle.dc_tree.specs.declared.expr.Expr.{Expr, Name, Refer, Binary}
 use Rattle.dc_tree.specs.Entities.{Entity, outside, slots, dummy, constant, function, subroutine, reduction, nothing, Scope, entity}
 use Rattle.dc_tree.specs.Intrinsics.{Intrinsic, intrinsic}
 use Rattle.dc_tree.specs.Operating.{joined_by}
-use Rattle.dc_tree.specs.SecondForm.{is_default, is_scalar, is_vector, is_sum_or_product, is_small, is_small_subscript, is_one_subscript}
+use Rattle.dc_tree.specs.SmallPrograms.{is_default, is_scalar, is_vector, is_sum_or_product, is_small, is_small_subscript, is_one_subscript}
 use Rattle.dc_tree.specs.Syntax.{Tree, Args, number, truth, chars, name, refer, paren, unary, binary, no_args, arg, args_from, tree, arg_tree, tree_step, arg_step}
 use Rattle.dc_tree.specs.Typing.{is_arithmetic, joined, sort_of, sort_of_entity, sort_referred}
 use Rattle.dc_tree.proofs.Views.{tree-Name, tree-Refer, tree-Binary}

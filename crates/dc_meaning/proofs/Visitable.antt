@@ -17,7 +17,7 @@ use Rattle.dc_tree.specs.declared.symbols.Role as roles
 use Rattle.dc_tree.specs.declared.symbols.Symbol.{Symbol}
 use Rattle.dc_tree.specs.Blocks.{Line, Items, Source}
 use Rattle.dc_tree.specs.Entities.{Entity, entity_in, result_in, procedure_entity, symbols_in, outer_names, main_scope}
-use Rattle.dc_tree.specs.SecondForm.{with_index, is_second_form, is_small_block}
+use Rattle.dc_tree.specs.SmallPrograms.{with_index, is_small_program, is_small_block}
 use Rattle.dc_tree.specs.Statements.{Name}
 use Rattle.dc_meaning.specs.declared.stop.Stop.{Stop}
 use Rattle.dc_meaning.specs.Alone.{nth_loop, index_name, block_alone, Ends}
@@ -95,7 +95,7 @@ module _ (within : Surroundings) (symbols : List Symbol) (loop : Concurrent) (no
 
 -- ---- a loop of the main program
 
-module _ (symbols : List Symbol) (source : Source) (turns number : ℕ) (head : Line) (block : Items) (form : is_second_form symbols source ≡ true)
+module _ (symbols : List Symbol) (source : Source) (turns number : ℕ) (head : Line) (block : Items) (form : is_small_program symbols source ≡ true)
     (is : Some (head, block) ≡ nth_loop number source.body) where
   abbrev pub within : Surroundings
   within = surroundings symbols source turns
@@ -147,7 +147,7 @@ module _ (symbols : List Symbol) (source : Source) (turns number : ℕ) (head : 
       ap (λ (f : Form). over store (opened f left)) form-here ∙ ap (over store) (opened-is within symbols at.counted head block at.small at.whole left)
 
 -- A loop of the program at its number.
-pub visitable : (symbols : List Symbol) (source : Source) (turns number : ℕ) (head : Line) (block : Items) → is_second_form symbols source ≡ true → nth_loop number source.body ≡ Some (head, block)
+pub visitable : (symbols : List Symbol) (source : Source) (turns number : ℕ) (head : Line) (block : Items) → is_small_program symbols source ≡ true → nth_loop number source.body ≡ Some (head, block)
     → IsVisitable (loop_parts symbols source turns number) symbols head.says block
 visitable symbols source turns number head block form is = record {
   names = symbols-small symbols source form number;

@@ -10,7 +10,7 @@ use Rattle.dc_tree.specs.declared.program.Program.{Program}
 use Rattle.dc_tree.specs.declared.symbols.Symbol.{Symbol}
 use Rattle.dc_tree.specs.Blocks as blocks
 use Rattle.dc_tree.specs.Blocks.{Line, Items, Item, none, and_then, Source, source_of}
-use Rattle.dc_tree.specs.SecondForm.{is_second_form}
+use Rattle.dc_tree.specs.SmallPrograms.{is_small_program}
 use Rattle.dc_tree.specs.Statements.{Name, Statement, concurrent}
 use Rattle.dc_meaning.specs.declared.alone_out.AloneOut.{AloneOut}
 use Rattle.dc_meaning.specs.declared.stop.Stop.{Stop}
@@ -20,7 +20,7 @@ use Rattle.dc_meaning.specs.Walking.{View, seen_over}
 
 -- What can be asked: a program that can be run today, and one value for the one index of its loops.
 pub record IsAsked (program : Program) (symbols : List Symbol) (combination : List ℤ) : Type 0 where
-  pub form : IsTrue (is_second_form symbols (source_of program))
+  pub form : IsTrue (is_small_program symbols (source_of program))
   pub one : length combination ≡ 1
 
 -- The iteration of a loop with these index values, over the store of these states.

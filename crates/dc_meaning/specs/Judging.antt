@@ -10,7 +10,7 @@ use Rattle.dc_code.specs.Troubles.{ended}
 use Rattle.dc_code.specs.Verdicts.{Verdict, go_on, in_iteration, race, bad_iteration, verdict, seen}
 use Rattle.dc_tree.specs.Blocks.{Items, items}
 use Rattle.dc_tree.specs.Entities.{Scope, main_scope}
-use Rattle.dc_tree.specs.SecondForm.{are_small_symbols, is_small_loop, with_index}
+use Rattle.dc_tree.specs.SmallPrograms.{are_small_symbols, is_small_loop, with_index}
 use Rattle.dc_tree.specs.Statements.{statement}
 use Rattle.dc_meaning.specs.declared.stop.Stop.{Stop}
 use Rattle.dc_meaning.specs.declared.task.Task.{Task}

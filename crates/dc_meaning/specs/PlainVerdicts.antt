@@ -7,7 +7,7 @@ use Rattle.dc_code.specs.Verdicts.{go_on, in_iteration, race, verdict}
 use Rattle.dc_tree.specs.declared.program.Program.{Program}
 use Rattle.dc_tree.specs.declared.symbols.Symbol.{Symbol}
 use Rattle.dc_tree.specs.Blocks.{source_of}
-use Rattle.dc_tree.specs.SecondForm.{is_second_form}
+use Rattle.dc_tree.specs.SmallPrograms.{is_small_program}
 use Rattle.dc_meaning.specs.declared.plain.PlainVerdict.{PlainVerdict}
 use Rattle.dc_meaning.specs.Alone.{nth_loop}
 use Rattle.dc_meaning.specs.Judging.{combination}
@@ -15,7 +15,7 @@ use Rattle.dc_meaning.specs.Views.{states_in}
 
 -- What can be judged: a loop of a program that can be run today, with the values of its one index.
 pub record IsJudgeable (program : Program) (symbols : List Symbol) (construct width : ℕ) (active : List ℤ) : Type 0 where
-  pub form : IsTrue (is_second_form symbols (source_of program))
+  pub form : IsTrue (is_small_program symbols (source_of program))
   pub loop : IsTrue (is_some (nth_loop construct (source_of program).body))
   pub one : width ≡ 1
   pub few : length active ≤ 4194304

@@ -8,7 +8,7 @@ use Rattle.dc_tree.specs.declared.symbols.Role as roles
 use Rattle.dc_tree.specs.declared.symbols.Symbol.{Symbol}
 use Rattle.dc_tree.specs.Blocks.{Item, plain}
 use Rattle.dc_tree.specs.Entities.{Entity, outside, slots, nothing, Scope, main_scope}
-use Rattle.dc_tree.specs.SecondForm.{with_index, is_small_assignment}
+use Rattle.dc_tree.specs.SmallPrograms.{with_index, is_small_assignment}
 use Rattle.dc_tree.specs.Syntax.{Tree, Args, no_args, arg}
 use Rattle.dc_meaning.specs.Acts.{Place, outer, in_frame}
 use Rattle.dc_meaning.specs.declared.found.Found.{Found}

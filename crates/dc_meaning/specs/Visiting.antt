@@ -13,7 +13,7 @@ use Rattle.dc_tree.specs.declared.symbols.Symbol.{Symbol}
 use Rattle.dc_tree.specs.Blocks.{Items, Source}
 use Rattle.dc_tree.specs.Entities.{main_scope}
 use Rattle.dc_tree.specs.Literals.{number_of}
-use Rattle.dc_tree.specs.SecondForm.{are_small_symbols, is_small_loop, with_index}
+use Rattle.dc_tree.specs.SmallPrograms.{are_small_symbols, is_small_loop, with_index}
 use Rattle.dc_tree.specs.Statements.{Statement, concurrent}
 use Rattle.dc_tree.specs.Syntax.{Tree, number}
 use Rattle.dc_meaning.specs.Alone.{index_name}

@@ -1,6 +1,6 @@
 ghost use Rattle.std.specs.Prelude.{◌≡◌, ◌||◌, IsTrue, Some, None, true, [], ◌∷◌, option_map, map};
 ghost use Rattle.dc_tree.specs.Entities.{entity};
-ghost use Rattle.dc_tree.specs.SecondForm.{are_small_symbols, is_small_subscript, is_small_target, is_small, is_outside_scalar, is_vector};
+ghost use Rattle.dc_tree.specs.SmallPrograms.{are_small_symbols, is_small_subscript, is_small_target, is_small, is_outside_scalar, is_vector};
 ghost use Rattle.dc_tree.specs.Statements.{target_of};
 ghost use Rattle.dc_tree.specs.Syntax.{tree};
 ghost use Rattle.dc_meaning.specs.Actions as actions;

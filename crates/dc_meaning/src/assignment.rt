@@ -1,6 +1,6 @@
 ghost use Rattle.std.specs.Prelude.{◌≡◌, IsTrue, true, []};
 ghost use Rattle.dc_tree.specs.Entities.{main_scope};
-ghost use Rattle.dc_tree.specs.SecondForm.{are_small_symbols, is_small_assignment};
+ghost use Rattle.dc_tree.specs.SmallPrograms.{are_small_symbols, is_small_assignment};
 ghost use Rattle.dc_tree.specs.Statements as statements;
 ghost use Rattle.dc_tree.specs.Statements.{deed};
 ghost use Rattle.dc_meaning.specs.Actions as actions;

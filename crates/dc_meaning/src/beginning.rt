@@ -2,7 +2,7 @@
 
 ghost use Rattle.std.specs.Prelude.{map, Some, IsTrue, IfOk, ◌≡◌};
 ghost use Rattle.std.specs.List.{list_all};
-ghost use Rattle.dc_tree.specs.SecondForm.{is_small_symbol, are_small_bounds};
+ghost use Rattle.dc_tree.specs.SmallPrograms.{is_small_symbol, are_small_bounds};
 ghost use Rattle.dc_meaning.specs.Calls.{undefined_cells};
 ghost use Rattle.dc_meaning.specs.Programs.{first_store};
 ghost use Rattle.dc_meaning.specs.Views.{variable_of};

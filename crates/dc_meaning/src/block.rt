@@ -1,6 +1,6 @@
 ghost use Rattle.std.specs.Prelude.{◌≡◌, ℕ, IsTrue, map};
 ghost use Rattle.dc_tree.specs.Blocks.{item, items, items_from};
-ghost use Rattle.dc_tree.specs.SecondForm.{are_small_symbols, is_small_block};
+ghost use Rattle.dc_tree.specs.SmallPrograms.{are_small_symbols, is_small_block};
 ghost use Rattle.dc_meaning.specs.Actions as actions;
 ghost use Rattle.dc_meaning.specs.Execution.{exec, exec_all};
 ghost use Rattle.dc_meaning.specs.Standing.{scope_of, own_of, is_small_line};

@@ -6,7 +6,7 @@ ghost use Rattle.dc_meaning.specs.MarkViews.{marks_of, FitStore};
 ghost use Rattle.dc_meaning.specs.Walking.{noted};
 ghost use Rattle.dc_meaning.specs.Views.{variable_of, entry_of, store_with, states_in};
 ghost use Rattle.dc_meaning.specs.Programs.{first_store};
-ghost use Rattle.dc_tree.specs.SecondForm.{are_small_symbols};
+ghost use Rattle.dc_tree.specs.SmallPrograms.{are_small_symbols};
 
 use crate::beginning::undefined_variables;
 use crate::closing::forget_touched_twice;

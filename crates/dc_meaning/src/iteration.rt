@@ -1,6 +1,6 @@
 ghost use Rattle.std.specs.Prelude.{◌≡◌, ℕ, [], ◌∷◌, length, IfOk, IsTrue};
 ghost use Rattle.dc_tree.specs.Blocks.{source_of};
-ghost use Rattle.dc_tree.specs.SecondForm.{is_second_form};
+ghost use Rattle.dc_tree.specs.SmallPrograms.{is_small_program};
 ghost use Rattle.dc_meaning.specs.Alone.{IsAsked, Tells, iteration_alone, block_alone, Ends};
 ghost use Rattle.dc_meaning.specs.Telling.{IsTold};
 
@@ -19,7 +19,7 @@ fn perform_loop(
     value: i64,
     cells: &mut Cells,
 ) -> Result<(), Stop>
-    requires { IsTrue (is_second_form symbols.now (source_of program.now)) }
+    requires { IsTrue (is_small_program symbols.now (source_of program.now)) }
     ensures { (turns : ℕ) → Ends cells.old (block_alone symbols.now (source_of program.now) construct (value ∷ []) turns) cells.new result }
 {
     match nth_loop(program.body.nodes.as_slice(), construct) {

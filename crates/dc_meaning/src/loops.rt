@@ -1,7 +1,7 @@
 ghost use Rattle.std.specs.Prelude.{◌≡◌, ℕ, IsTrue, Some, [], ◌∷◌, map, option_map};
 ghost use Rattle.dc_tree.specs.Blocks.{item, items, items_from};
 ghost use Rattle.dc_tree.specs.Entities.{main_scope};
-ghost use Rattle.dc_tree.specs.SecondForm.{are_small_symbols, is_small_loop, with_index};
+ghost use Rattle.dc_tree.specs.SmallPrograms.{are_small_symbols, is_small_loop, with_index};
 ghost use Rattle.dc_tree.specs.Statements.{statement};
 ghost use Rattle.dc_meaning.specs.Actions as actions;
 ghost use Rattle.dc_meaning.specs.Alone.{nth_loop, index_name};

@@ -4,7 +4,7 @@ ghost use Rattle.dc_int.specs.Kinds.{wrapped};
 ghost use Rattle.dc_int.specs.Sorts.{whole};
 ghost use Rattle.dc_tree.specs.Literals.{number_of};
 ghost use Rattle.dc_tree.specs.Operating.{joined_by};
-ghost use Rattle.dc_tree.specs.SecondForm.{is_numeral, is_sum_or_product};
+ghost use Rattle.dc_tree.specs.SmallPrograms.{is_numeral, is_sum_or_product};
 
 use dc_int::wrap;
 use dc_tree::Mark;

@@ -4,7 +4,7 @@ ghost use Rattle.std.specs.Prelude.{◌≡◌, ◌||◌, [], map, IsTrue};
 ghost use Rattle.dc_int.specs.declared.kind.Kind.{Kind};
 ghost use Rattle.dc_int.specs.Sorts.{whole};
 ghost use Rattle.dc_tree.specs.Entities.{entity, main_scope};
-ghost use Rattle.dc_tree.specs.SecondForm.{are_small_symbols, is_outside_scalar, is_vector};
+ghost use Rattle.dc_tree.specs.SmallPrograms.{are_small_symbols, is_outside_scalar, is_vector};
 ghost use Rattle.dc_tree.specs.Syntax as syntax;
 ghost use Rattle.dc_meaning.specs.Actions.{piece, pieces};
 ghost use Rattle.dc_meaning.specs.Showing.{shown};

@@ -1,6 +1,6 @@
 ghost use Rattle.std.specs.Prelude.{◌≡◌, IsTrue};
 ghost use Rattle.dc_tree.specs.Entities.{entity};
-ghost use Rattle.dc_tree.specs.SecondForm.{are_small_symbols, is_small};
+ghost use Rattle.dc_tree.specs.SmallPrograms.{are_small_symbols, is_small};
 ghost use Rattle.dc_tree.specs.Syntax.{tree};
 ghost use Rattle.dc_meaning.specs.Places.{value_at_entity};
 ghost use Rattle.dc_meaning.specs.Values as values;

@@ -5,7 +5,7 @@ ghost use Rattle.dc_code.specs.Combinations.{values_of};
 ghost use Rattle.dc_code.specs.Loops.{Parts};
 ghost use Rattle.dc_tree.specs.Blocks.{items};
 ghost use Rattle.dc_tree.specs.Entities.{main_scope};
-ghost use Rattle.dc_tree.specs.SecondForm.{is_limit, is_small_loop};
+ghost use Rattle.dc_tree.specs.SmallPrograms.{is_limit, is_small_loop};
 ghost use Rattle.dc_tree.specs.Statements.{statement};
 ghost use Rattle.dc_tree.specs.Syntax.{tree};
 ghost use Rattle.dc_meaning.specs.Visiting.{IsVisitable, IsVisit, limit_of, index_values};

@@ -6,7 +6,7 @@ use Rattle.dc_code.specs.Inner.{judging}
 use Rattle.dc_tree.specs.declared.symbols.Symbol.{Symbol}
 use Rattle.dc_tree.specs.Blocks.{Source}
 use Rattle.dc_tree.specs.Entities.{main_scope}
-use Rattle.dc_tree.specs.SecondForm.{are_small_symbols, has_no_procedures, are_small_items, is_second_form}
+use Rattle.dc_tree.specs.SmallPrograms.{are_small_symbols, has_no_procedures, are_small_items, is_small_program}
 use Rattle.dc_meaning.specs.Programs.{first_store, surroundings, program_forms}
 use Rattle.dc_meaning.specs.Walking.{View}
 use Rattle.dc_run.specs.declared.ending.Ending as code
@@ -18,12 +18,12 @@ use Rattle.dc_meaning.proofs.Visitable.{visitable}
 use Rattle.dc_run.proofs.Owned.{accesses-own}
 use Rattle.dc_run.proofs.Visited.{same-shape}
 
-pub small-parts : (symbols : List Symbol) (source : Source) → is_second_form symbols source ≡ true → (are_small_symbols symbols ≡ true) × (are_small_items (main_scope symbols) source.body ≡ true)
+pub small-parts : (symbols : List Symbol) (source : Source) → is_small_program symbols source ≡ true → (are_small_symbols symbols ≡ true) × (are_small_items (main_scope symbols) source.body ≡ true)
 small-parts symbols source small =
     let both = and_parts (are_small_symbols symbols) (has_no_procedures source && are_small_items (main_scope symbols) source.body) small in
     (both.0, (and_parts (has_no_procedures source) (are_small_items (main_scope symbols) source.body) both.1).1)
 
-pub are-visitable : (symbols : List Symbol) (source : Source) (turns : ℕ) → is_second_form symbols source ≡ true → AreVisitable (program_forms symbols source turns) symbols source.body
+pub are-visitable : (symbols : List Symbol) (source : Source) (turns : ℕ) → is_small_program symbols source ≡ true → AreVisitable (program_forms symbols source turns) symbols source.body
 unfolding loop_in
 are-visitable symbols source turns small = record { each = λ number head block at. (visitable symbols source turns number head block small at, accesses-own symbols source turns number head block small at) }
 

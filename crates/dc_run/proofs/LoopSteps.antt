@@ -16,7 +16,7 @@ use Rattle.dc_tree.specs.declared.program.Node.{Node, Plain, Loop}
 use Rattle.dc_tree.specs.declared.symbols.Symbol.{Symbol}
 use Rattle.dc_tree.specs.Blocks.{Line, Items, plain, branch, select, loop, none, and_then, line_of, item, items}
 use Rattle.dc_tree.specs.Entities.{Scope}
-use Rattle.dc_tree.specs.SecondForm.{with_index, is_small_block, is_small_loop, is_small_assignment}
+use Rattle.dc_tree.specs.SmallPrograms.{with_index, is_small_block, is_small_loop, is_small_assignment}
 use Rattle.dc_tree.specs.declared.stmt.Action as code_actions
 use Rattle.dc_tree.specs.declared.stmt.Stmt.{Stmt}
 use Rattle.dc_tree.specs.Statements as statements

@@ -11,7 +11,7 @@ use Rattle.dc_code.specs.Computation.{SameShape}
 use Rattle.dc_code.specs.Verdicts.{race, seen}
 use Rattle.dc_tree.specs.declared.symbols.Role.{Role}
 use Rattle.dc_tree.specs.declared.symbols.Symbol.{Symbol}
-use Rattle.dc_tree.specs.SecondForm.{are_small_symbols, is_small_symbol, is_small_role}
+use Rattle.dc_tree.specs.SmallPrograms.{are_small_symbols, is_small_symbol, is_small_role}
 use Rattle.dc_meaning.specs.Programs.{first_store}
 use Rattle.dc_meaning.proofs.FirstStores.{first-more, begun}
 use Rattle.dc_meaning.proofs.Naming.{small-all, small-role}

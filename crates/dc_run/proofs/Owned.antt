@@ -23,7 +23,7 @@ use Rattle.dc_tree.specs.declared.symbols.Symbol.{Symbol}
 use Rattle.dc_tree.specs.Blocks.{Line, Items, Source}
 use Rattle.dc_tree.specs.Entities.{Entity, slots, entity, main_scope}
 use Rattle.dc_tree.specs.Places.{place_at}
-use Rattle.dc_tree.specs.SecondForm.{with_index, is_second_form, are_small_symbols, is_small_symbol, is_small_role, are_small_bounds}
+use Rattle.dc_tree.specs.SmallPrograms.{with_index, is_small_program, are_small_symbols, is_small_symbol, is_small_role, are_small_bounds}
 use Rattle.dc_tree.specs.Statements.{Name, Statement}
 use Rattle.dc_meaning.specs.Alone.{nth_loop, index_name}
 use Rattle.dc_meaning.specs.Judging.{combination}
@@ -97,7 +97,7 @@ module _ (symbols : List Symbol) (small : are_small_symbols symbols ≡ true) wh
       by false e own = own
 
 -- The accesses of a loop of the program.
-pub accesses-own : (symbols : List Symbol) (source : Source) (turns number : ℕ) (head : Line) (block : Items) → is_second_form symbols source ≡ true → nth_loop number source.body ≡ Some (head, block)
+pub accesses-own : (symbols : List Symbol) (source : Source) (turns number : ℕ) (head : Line) (block : Items) → is_small_program symbols source ≡ true → nth_loop number source.body ≡ Some (head, block)
     → AccessesOwn symbols (loop_in (program_forms symbols source turns) number)
 unfolding loop_in
 accesses-own symbols source turns number head block form is =

@@ -7,7 +7,7 @@ use Rattle.dc_tree.specs.declared.program.Node.{Node}
 use Rattle.dc_tree.specs.declared.symbols.Symbol.{Symbol}
 use Rattle.dc_tree.specs.Blocks.{Line, Item, Items, plain, branch, select, loop, and_then, item, items_from}
 use Rattle.dc_tree.specs.Entities.{Scope}
-use Rattle.dc_tree.specs.SecondForm.{is_small_item}
+use Rattle.dc_tree.specs.SmallPrograms.{is_small_item}
 use Rattle.dc_meaning.specs.Actions.{Flow}
 use Rattle.dc_meaning.specs.Acts.{State}
 use Rattle.dc_meaning.specs.Alone.{nth_loop}

@@ -6,7 +6,7 @@ ghost use Rattle.dc_code.specs.Inner.{Forms};
 ghost use Rattle.dc_code.specs.Loops.{Parts};
 ghost use Rattle.dc_tree.specs.Blocks.{item, items, items_from, line_of, source_of};
 ghost use Rattle.dc_tree.specs.Entities.{entity, main_scope};
-ghost use Rattle.dc_tree.specs.SecondForm.{are_small_symbols, is_outside_scalar, is_vector, is_small_assignment, is_small_output, is_small_item, are_small_items, is_second_form};
+ghost use Rattle.dc_tree.specs.SmallPrograms.{are_small_symbols, is_outside_scalar, is_vector, is_small_assignment, is_small_output, is_small_item, are_small_items, is_small_program};
 ghost use Rattle.dc_tree.specs.Statements as statements;
 ghost use Rattle.dc_tree.specs.Statements.{deed, statement};
 ghost use Rattle.dc_tree.specs.Syntax as syntax;
@@ -247,7 +247,7 @@ fn run_body(
 /// Runs a main program: what it writes, and how it ends.
 pub fn run_program(alloc: Global, program: &Program, symbols: &Symbols) -> Result<RunOut, NoMemory>
     ghost turns: { ℕ }
-    requires { IsTrue (is_second_form symbols.now (source_of program.now)) }
+    requires { IsTrue (is_small_program symbols.now (source_of program.now)) }
     ensures is { IfOk result (λ out. IsRunOf symbols.now (source_of program.now) turns out) }
     ensures owns { IfOk result (λ out. NamesOwn symbols.now out.ending) }
 {

@@ -9,7 +9,7 @@ pub mod Names
 pub mod Operating
 pub mod Places
 pub mod Ranking
-pub mod SecondForm
+pub mod SmallPrograms
 pub mod Spelling
 pub mod Statements
 pub mod StatementsBack

@@ -1,6 +1,6 @@
 use Rattle.std.proofs.Common.{◌≡◌, ◌++◌, drop, map, IsTrue}
 use Rattle.std.specs.List.{list_all}
-use Rattle.dc_tree.specs.SecondForm.{is_small_symbol}
+use Rattle.dc_tree.specs.SmallPrograms.{is_small_symbol}
 use Rattle.dc_meaning.specs.Programs.{first_store}
 use Rattle.dc_meaning.specs.Views.{variable_of}
 use Rattle.dc_meaning.proofs.beginning.undefined_variables.Given as goal

@@ -1,7 +1,7 @@
 use Rattle.std.proofs.Common.{drop, map, ℕ, IsTrue}
 use Rattle.std.specs.Prelude.{Result}
 use Rattle.dc_tree.specs.Blocks.{item, items_from}
-use Rattle.dc_tree.specs.SecondForm.{is_small_block}
+use Rattle.dc_tree.specs.SmallPrograms.{is_small_block}
 use Rattle.dc_meaning.specs.declared.stop.Stop.{Stop}
 use Rattle.dc_meaning.specs.Execution.{exec_all}
 use Rattle.dc_meaning.specs.Standing.{scope_of, own_of}

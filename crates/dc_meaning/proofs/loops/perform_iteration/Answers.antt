@@ -4,7 +4,7 @@ use Rattle.std.specs.Int.{w64}
 use Rattle.std.proofs.lemmas.Int.{to_z-of_z}
 use Rattle.dc_tree.specs.Blocks.{items}
 use Rattle.dc_tree.specs.Entities.{main_scope}
-use Rattle.dc_tree.specs.SecondForm.{with_index}
+use Rattle.dc_tree.specs.SmallPrograms.{with_index}
 use Rattle.dc_tree.specs.Statements.{statement}
 use Rattle.dc_meaning.specs.Alone.{index_name}
 use Rattle.dc_meaning.specs.Execution.{exec_all}

@@ -3,7 +3,7 @@ use Rattle.std.specs.Prelude.{option_map}
 use Rattle.dc_tree.specs.declared.stmt.Index.{Index}
 use Rattle.dc_tree.specs.Blocks.{items}
 use Rattle.dc_tree.specs.Entities.{main_scope}
-use Rattle.dc_tree.specs.SecondForm.{is_limit, is_small_loop}
+use Rattle.dc_tree.specs.SmallPrograms.{is_limit, is_small_loop}
 use Rattle.dc_tree.specs.Statements.{concurrent, index_ranging, statement, type_form}
 use Rattle.dc_tree.specs.Syntax.{tree}
 use Rattle.dc_meaning.proofs.Limits.{limits-head}

@@ -2,7 +2,7 @@ use Rattle.std.proofs.Common.{◌≤◌, ◌+◌, ◌∙◌, drop, map, sym, ap,
 use Rattle.std.proofs.lemmas.Bool.{and_parts}
 use Rattle.dc_tree.specs.Blocks.{item, items_from}
 use Rattle.dc_tree.specs.Entities.{main_scope}
-use Rattle.dc_tree.specs.SecondForm.{is_small_item, are_small_items}
+use Rattle.dc_tree.specs.SmallPrograms.{is_small_item, are_small_items}
 use Rattle.dc_meaning.specs.Alone.{nth_loop}
 use Rattle.dc_meaning.specs.Execution.{exec}
 use Rattle.dc_run.specs.Running.{Steps, looping_in}

@@ -1,7 +1,7 @@
 use Rattle.std.proofs.Common.{◌≡◌, ◌≤◌, ◌+◌, ℕ, IsTrue, drop, map}
 use Rattle.dc_tree.specs.Blocks.{item, items_from}
 use Rattle.dc_tree.specs.Entities.{main_scope}
-use Rattle.dc_tree.specs.SecondForm.{are_small_items}
+use Rattle.dc_tree.specs.SmallPrograms.{are_small_items}
 use Rattle.dc_meaning.specs.Alone.{nth_loop}
 use Rattle.dc_meaning.specs.Values.{Callee}
 use Rattle.dc_run.specs.Playing.{played}

@@ -1,8 +1,8 @@
 use Rattle.std.proofs.Common.{◌≡◌, refl, ◌∙◌, rules, true}
 use Rattle.std.specs.Prelude.{is_some}
 use Rattle.dc_tree.specs.Blocks.{source_of}
-use Rattle.dc_tree.specs.SecondForm.{is_second_form}
-use Rattle.dc_front.proofs.SecondSmall.{spelled-is_second_form}
+use Rattle.dc_tree.specs.SmallPrograms.{is_small_program}
+use Rattle.dc_front.proofs.SecondSmall.{spelled-is_small_program}
 use Rattle.dc_meaning.specs.Alone.{nth_loop}
 use Rattle.docon_rows.proofs.plain_judge.judged.Goals as goal
 
@@ -11,8 +11,8 @@ plain_verdict-requires c =
     let there : is_some (nth_loop 0 (source_of c.program-program.result.now).body) ≡ true = search rules in
     record {
       form =
-          (λ i. is_second_form (c.symbols-symbols.ensures i) (source_of (c.program-program.ensures i)))
-          ∙ spelled-is_second_form c.args.source.now c.in-Ok.accepted.program c.in-Ok.accepted.symbols c.in-Ok.ensures;
+          (λ i. is_small_program (c.symbols-symbols.ensures i) (source_of (c.program-program.ensures i)))
+          ∙ spelled-is_small_program c.args.source.now c.in-Ok.accepted.program c.in-Ok.accepted.symbols c.in-Ok.ensures;
       loop = there;
       one = refl;
       few = c.requires;

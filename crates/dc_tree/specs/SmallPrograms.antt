@@ -160,5 +160,5 @@ has_no_procedures source = by source.procedures
     by other = false
 
 -- A program that can be run today, by its declared names.
-abbrev pub is_second_form : List Symbol → Source → Bool
-is_second_form symbols source = are_small_symbols symbols && (has_no_procedures source && are_small_items (main_scope symbols) source.body)
+abbrev pub is_small_program : List Symbol → Source → Bool
+is_small_program symbols source = are_small_symbols symbols && (has_no_procedures source && are_small_items (main_scope symbols) source.body)
