@@ -1,5 +1,5 @@
 -- What a verdict shows of the iterations that it names.
-use Rattle.std.proofs.Common.{◌≡◌, ℕ, Bool, true, false, List, [], ◌∷◌, map, Option, Some, None, refl, sym, ap, ◌∙◌, subst}
+use Rattle.std.proofs.Common.{◌≡◌, ℕ, suc, Bool, true, false, List, [], ◌∷◌, map, Option, Some, None, refl, sym, ap, ◌∙◌, subst}
 use Rattle.std.proofs.lemmas.Bool.{false≢true}
 use Rattle.std.proofs.lemmas.List.Elements.{All-nil, All-cons}
 use Rattle.std.proofs.lemmas.Option.{none-some, same_Some}
@@ -125,23 +125,55 @@ bad-alone parts store (other ∷ rest) met at e = by (alone parts store other).t
         subst (λ values. (alone parts store values).trouble ≡ Some met) same_values (is ∙ ap (λ (t : Trouble). Some t) same_trouble)
     by None is e later = later e
 
-pub told-alone
+-- A verdict that tells of an iteration is that of the first one that doesn't end well.
+told-bad
     : (parts : Parts) (store : Store) (iterations : List (List ℤ)) (met : Trouble) (at : List ℤ)
-    → verdict parts store iterations ≡ in_iteration met at → (alone parts store at).trouble ≡ Some met
-told-alone parts store iterations met at told =
+    → verdict parts store iterations ≡ in_iteration met at
+    → bad_iteration iterations (map (alone parts store) iterations) ≡ Some (in_iteration met at)
+told-bad parts store iterations met at told =
     by (bad_iteration iterations (map (alone parts store) iterations)) refl
     (race_among parts store iterations (alone_runs parts store iterations)) refl told
   where
     by
         : (bad : Option Verdict) → bad_iteration iterations (map (alone parts store) iterations) ≡ bad
         → (raced : Option Verdict) → race_among parts store iterations (alone_runs parts store iterations) ≡ raced
-        → first_of bad raced ≡ in_iteration met at → (alone parts store at).trouble ≡ Some met
-    by (Some said) bad_is raced raced_is e = bad-alone parts store iterations met at (bad_is ∙ ap (λ (v : Verdict). Some v) e)
+        → first_of bad raced ≡ in_iteration met at
+        → bad_iteration iterations (map (alone parts store) iterations) ≡ Some (in_iteration met at)
+    by (Some said) bad_is raced raced_is e = bad_is ∙ ap (λ (v : Verdict). Some v) e
     by None bad_is (Some said) raced_is e =
         let shown : is_race said ≡ true = among-is_race parts store iterations (alone_runs parts store iterations) said raced_is in
         let told : is_race said ≡ false = ap is_race e in
         cc
     by None bad_is None raced_is e = cc
+
+pub told-alone
+    : (parts : Parts) (store : Store) (iterations : List (List ℤ)) (met : Trouble) (at : List ℤ)
+    → verdict parts store iterations ≡ in_iteration met at → (alone parts store at).trouble ≡ Some met
+told-alone parts store iterations met at told = bad-alone parts store iterations met at (told-bad parts store iterations met at told)
+
+-- It is one of the iterations.
+bad-place
+    : (iterations : List (List ℤ)) (passages : List Passage) (met : Trouble) (at : List ℤ)
+    → bad_iteration iterations passages ≡ Some (in_iteration met at) → (place : ℕ) × (slice_get iterations place ≡ Some at)
+bad-place [] passages met at e = absurd (none-some (in_iteration met at) e)
+bad-place (other ∷ rest) [] met at e = absurd (none-some (in_iteration met at) e)
+bad-place (other ∷ rest) (passage ∷ passages) met at e = by passage.trouble e (bad-place rest passages met at)
+  where
+    by
+        : (trouble : Option Trouble) → or_later other trouble (bad_iteration rest passages) ≡ Some (in_iteration met at)
+        → (bad_iteration rest passages ≡ Some (in_iteration met at) → (place : ℕ) × (slice_get rest place ≡ Some at))
+        → (place : ℕ) × (slice_get (other ∷ rest) place ≡ Some at)
+    by (Some trouble) e later =
+        let same : in_iteration trouble other ≡ in_iteration met at = same_Some (in_iteration trouble other) (in_iteration met at) e in
+        let same_values : other ≡ at = cc in
+        (0, ap (λ (values : List ℤ). Some values) same_values)
+    by None e later = let found = later e in (suc found.0, found.1)
+
+pub told-place
+    : (parts : Parts) (store : Store) (iterations : List (List ℤ)) (met : Trouble) (at : List ℤ)
+    → verdict parts store iterations ≡ in_iteration met at → (place : ℕ) × (slice_get iterations place ≡ Some at)
+told-place parts store iterations met at told =
+    bad-place iterations (map (alone parts store) iterations) met at (told-bad parts store iterations met at told)
 
 bad-is_race
     : (iterations : List (List ℤ)) (passages : List Passage) (said : Verdict) → bad_iteration iterations passages ≡ Some said → is_race said ≡ false

@@ -2,6 +2,7 @@ pub mod Breaks
 pub mod Closing
 pub mod Combinations
 pub mod Computation
+pub mod EveryOrder
 pub mod Inner
 pub mod Laws
 pub mod Loops

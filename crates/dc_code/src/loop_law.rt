@@ -1,8 +1,9 @@
-ghost use Rattle.std.specs.Prelude.{◌≡◌, [], ◌∷◌, List, Some, ℤ};
+ghost use Rattle.std.specs.Prelude.{◌≡◌, [], ◌∷◌, List, Some, ℤ, ℕ};
 ghost use Rattle.std.specs.List.Sorted.{IsPermutation};
 ghost use Rattle.dc_int.specs.declared.access.ElementId.{ElementId};
 ghost use Rattle.dc_int.specs.Store.{Store};
 ghost use Rattle.dc_code.specs.declared.verdict.Race.{Race};
+ghost use Rattle.dc_code.specs.EveryOrder.{SaysOfOrders};
 ghost use Rattle.dc_code.specs.Inner.{parts_with};
 ghost use Rattle.dc_code.specs.Laws.{HasPlainBlocks, IsFramed, DiffersAtRead, TouchesOwn, HoldsOwn, EndWell, alone_runs, EndsAt, BeginsWithRace, NamesIterations, TellsRace, NothingWrong, EndsAlike};
 ghost use Rattle.dc_code.specs.Loops.{Form, Parts, order};
@@ -57,4 +58,12 @@ pub fn a_loop_that_goes_on_ends_alike_in_every_order()
     ensures { (parts : Parts) (store : Store) → IsFramed parts → DiffersAtRead parts → TouchesOwn parts store → HoldsOwn parts.form.known store
         → (iterations : List (List ℤ)) → verdict parts store iterations ≡ go_on
         → (ordered : List (List ℤ)) → IsPermutation iterations ordered → EndsAlike parts store iterations ordered }
+{}
+
+/// What is said of a loop of the main program holds in every order of its iterations: where it goes on, each
+/// order ends with the one store behind it; an iteration that doesn't end well ends each order that it
+/// begins; and two that race break the restriction of the named element in each order that they begin.
+pub fn what_is_said_of_a_loop_holds_in_every_order()
+    ensures { (loop : Parts) (turns : ℕ) (store : Store) → IsFramed loop → DiffersAtRead loop → TouchesOwn loop store → HoldsOwn loop.form.known store
+        → SaysOfOrders loop turns store }
 {}

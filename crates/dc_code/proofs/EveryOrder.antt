@@ -1,0 +1,36 @@
+-- What is said of a loop of the main program holds in every order of its iterations.
+use Rattle.std.proofs.Common.{◌≡◌, ℕ, refl}
+use Rattle.dc_int.specs.Store.{Store}
+use Rattle.dc_code.specs.EveryOrder.{HoldsInOrders, SaysOfOrders}
+use Rattle.dc_code.specs.Laws.{IsFramed, DiffersAtRead, TouchesOwn, HoldsOwn}
+use Rattle.dc_code.specs.Loops.{Opened, Parts}
+use Rattle.dc_code.specs.Verdicts.{Verdict, go_on, at_header, in_iteration, race, verdict}
+use Rattle.dc_code.specs.Visits.{visited_by}
+use Rattle.dc_code.proofs.GoesOn.{goes-on_alike}
+use Rattle.dc_code.proofs.Judged.{race-names}
+use Rattle.dc_code.proofs.Orders.{bad-ends, race-in_order}
+use Rattle.dc_code.proofs.Verdicts.{told-place}
+
+module _ (loop : Parts) (store : Store) (framed : IsFramed loop) (differs : DiffersAtRead loop) (own : TouchesOwn loop store)
+    (holds : HoldsOwn loop.form.known store) where
+  verdict-holds
+      : (opening : Opened) (said : Verdict) → verdict loop store opening.iterations ≡ said
+      → HoldsInOrders loop store opening.iterations (visited_by loop store opening said).store (visited_by loop store opening said).verdict
+  verdict-holds opening go_on is = record {
+    each = λ ordered permuted.
+        let alike = goes-on_alike loop store framed differs own holds opening.iterations is ordered permuted in
+        record { well = alike.trouble; unbroken = alike.unbroken; closing = alike.closing };
+  }
+  verdict-holds opening (at_header trouble) is = tt
+  verdict-holds opening (in_iteration met at) is =
+      let found = told-place loop store opening.iterations met at is in
+      record { place = found.0; is = found.1; each = λ rest. bad-ends loop store opening.iterations met at is rest }
+  verdict-holds opening (race found first second) is = record {
+    names = race-names loop store opening.iterations found first second is;
+    each = λ rest. race-in_order loop store opening.iterations found first second is rest;
+  }
+
+  pub says-of-orders : (turns : ℕ) → SaysOfOrders loop turns store
+  says-of-orders turns = record {
+    says = λ opening reached. rw reached (verdict-holds opening (verdict loop store opening.iterations) refl);
+  }

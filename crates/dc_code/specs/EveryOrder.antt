@@ -1,0 +1,56 @@
+-- What the verdict on a loop of the main program says of every order of its iterations. This project's own, on
+-- ISO/IEC 1539-1:2023, clauses 11.1.7.4 and 11.1.7.5.
+use Rattle.std.specs.Prelude.{◌≡◌, ℕ, true, false, List, [], ◌∷◌, slice_get, Some, None, is_some, ℤ}
+use Rattle.std.specs.List.Sorted.{IsPermutation}
+use Rattle.dc_int.specs.declared.access.ElementId.{ElementId}
+use Rattle.dc_int.specs.Store.{Store, cell_of}
+use Rattle.dc_code.specs.declared.verdict.Race.{Race}
+use Rattle.dc_code.specs.Computation.{done, over}
+use Rattle.dc_code.specs.Inner.{judging}
+use Rattle.dc_code.specs.Laws.{EndsAt, BeginsWithRace, NamesIterations}
+use Rattle.dc_code.specs.Loops.{Opened, opened, Parts, order, closed}
+use Rattle.dc_code.specs.Pairs.{clashes}
+use Rattle.dc_code.specs.Troubles.{Trouble}
+use Rattle.dc_code.specs.Verdicts.{Verdict, go_on, at_header, in_iteration, race}
+use Rattle.dc_code.specs.Visits.{visited}
+
+-- In this order all iterations end well, no two break the restriction of an element of the store, and the
+-- loop ends with this store.
+pub record EndsWith (loop : Parts) (store : Store) (ordered : List (List ℤ)) (after : Store) : Type 0 where
+  pub well : (order loop [] store ordered).trouble ≡ None
+  pub unbroken
+      : (x : ElementId) → is_some (cell_of store x) ≡ true
+      → clashes (loop.form.known.locality x.variable) x (order loop [] store ordered).runs ≡ false
+  pub closing : closed loop (order loop [] store ordered) ≡ after
+
+-- Every order of the iterations ends with this one store.
+pub record AllEndWith (loop : Parts) (store : Store) (iterations : List (List ℤ)) (after : Store) : Type 0 where
+  pub each : (ordered : List (List ℤ)) → IsPermutation iterations ordered → EndsWith loop store ordered after
+
+-- One of the iterations has these index values, and every order that begins with it ends at it, with this
+-- trouble.
+pub record EndsAll (loop : Parts) (store : Store) (iterations : List (List ℤ)) (met : Trouble) (at : List ℤ) : Type 0 where
+  pub place : ℕ
+  pub is : slice_get iterations place ≡ Some at
+  pub each : (rest : List (List ℤ)) → EndsAt loop store at met (order loop [] store (at ∷ rest))
+
+-- Two different iterations have these index values, and in every order that begins with the two, one after
+-- the other, they break the restriction of the element that is named.
+pub record BreaksAll (loop : Parts) (store : Store) (iterations : List (List ℤ)) (found : Race) (first second : List ℤ) : Type 0 where
+  pub names : NamesIterations found iterations first second
+  pub each : (rest : List (List ℤ)) → BeginsWithRace loop.form.known.locality found (order loop [] store (first ∷ second ∷ rest))
+
+-- What a verdict says of these iterations, and of the store behind the loop where it goes on. The trouble of
+-- a header belongs to no iteration.
+abbrev pub HoldsInOrders : Parts → Store → List (List ℤ) → Store → Verdict → Type 0
+HoldsInOrders loop store iterations after go_on = AllEndWith loop store iterations after
+HoldsInOrders loop store iterations after (at_header trouble) = Unit
+HoldsInOrders loop store iterations after (in_iteration met at) = EndsAll loop store iterations met at
+HoldsInOrders loop store iterations after (race found first second) = BreaksAll loop store iterations found first second
+
+-- What is said of the loop, where it is reached with so many turns over this store, holds in every order of
+-- the iterations that its header gives.
+pub record SaysOfOrders (loop : Parts) (turns : ℕ) (store : Store) : Type 0 where
+  pub says
+      : (opening : Opened) → (over store (opened loop.form turns)).reached ≡ done opening
+      → HoldsInOrders loop store opening.iterations (visited judging loop turns store).store (visited judging loop turns store).verdict
