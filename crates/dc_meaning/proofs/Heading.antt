@@ -159,7 +159,7 @@ module _ (within : Surroundings) (symbols : List Symbol) (counted : ℕ) (head :
   simple-is = λ i. record {
     line = head.line;
     known = localities_of within found-loop;
-    copied = copies-form within symbols counted head body small i;
+    copied = copies-form within symbols counted head body small [] i;
     combines = no-combines found-loop refl within.outsides i;
     header = λ turns. header-is turns i;
     mask = λ at. give true;

@@ -2,10 +2,12 @@ pub mod Blocking
 pub mod Changes
 pub mod Clashing
 pub mod Doubling
+pub mod EveryOrder
 pub mod FirstStores
 pub mod Forgetting
 pub mod Heading
 pub mod Indexes
+pub mod Iterating
 pub mod Judging
 pub mod Limits
 pub mod Looping
@@ -15,7 +17,7 @@ pub mod Numerals
 pub mod Own
 pub mod Passing
 pub mod Performing
-pub mod Quiet
+pub mod Placed
 pub mod Racing
 pub mod Saying
 pub mod Scanning

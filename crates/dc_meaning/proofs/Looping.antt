@@ -175,7 +175,7 @@ module _ (within : Surroundings) (symbols : List Symbol) (number : ℕ) (head : 
   scope-with locals reductions sort =
       with_names (scalars_from 0 ((small.ranging.name, sort) ∷ []) ++ (variables_from 1 (map (λ w. w.0) locals) ++ reductions)) (0 + (1 + length locals)) (main_scope symbols)
 
-  scope-is : block_scope within found-loop ≡ with_index (main_scope symbols) small.ranging.name
+  pub scope-is : block_scope within found-loop ≡ with_index (main_scope symbols) small.ranging.name
   scope-is = λ i. scope-with (no-locals within.outsides i) (no-reductions within.outsides i) (outside-sort (entity (main_scope symbols) small.ranging.name) small.index i)
 
   pub block-form : (z : ℤ) → (form_of within found-loop []).block [] (z ∷ [])
@@ -186,5 +186,5 @@ module _ (within : Surroundings) (symbols : List Symbol) (number : ℕ) (head : 
       ∙ ap (λ s. inside_frame ((Some z ∷ []) ∷ []) within.turns (exec_all s within.call (suc number) body) (λ flow left. left))
       (scope-is ∙ ap (λ s. with_index (main_scope symbols) (index_name s)) (sym small.is))
 
-  pub copies-form : (form_of within found-loop []).copied ≡ []
-  copies-form = ap (flat_map (copied_by found-loop)) (no-locals within.outsides)
+  pub copies-form : (around : Slots) → (form_of within found-loop around).copied ≡ []
+  copies-form around = ap (flat_map (copied_by found-loop)) (no-locals within.outsides)

@@ -1,7 +1,9 @@
--- What a block of today's form does is to elements of its variables, within their bounds.
-use Rattle.std.proofs.Common.{◌≡◌, ◌<◌, ◌≤◌, ◌+◌, ◌-◌, ◌*◌, ℕ, zero, suc, Bool, true, false, ◌&&◌, ◌||◌, List, [], ◌∷◌, Option, Some, None, refl, sym, ap, ◌∙◌, subst, arith}
+-- What a block of today's form does is to elements of its variables, within their bounds, without a pause and
+-- without a contribution.
+use Rattle.std.proofs.Common.{◌≡◌, ◌<◌, ◌≤◌, ◌+◌, ◌-◌, ◌*◌, ℕ, zero, suc, Bool, true, false, ◌&&◌, ◌||◌, List, [], ◌∷◌, All, Option, Some, None, refl, sym, ap, ◌∙◌, subst, arith}
 use Rattle.std.proofs.lemmas.Bool.{and_parts, false≢true, leb-true}
 use Rattle.std.proofs.lemmas.Int.{ints}
+use Rattle.std.proofs.lemmas.List.Elements.{All-nil, All-cons}
 use Rattle.std.proofs.lemmas.Option.{none-some, same_Some}
 use Rattle.std.specs.Prelude.{Ok, Err, ℤ, pos, negsuc, ◌+ℤ◌, int_le, slice_get, if◌then◌else◌}
 use Rattle.std.specs.Int.{int_gap}
@@ -10,15 +12,14 @@ use Rattle.dc_int.specs.declared.access.Access.{Access}
 use Rattle.dc_int.specs.declared.access.ElementId.{ElementId}
 use Rattle.dc_int.specs.declared.fault.FaultKind.{FaultKind}
 use Rattle.dc_int.specs.declared.operation.OpFault.{OpFault}
-use Rattle.dc_int.specs.Entries.{accesses_of}
+use Rattle.dc_int.specs.Entries.{Reads, Defines, Undefines, accesses_of}
 use Rattle.dc_int.specs.Operations.{Outcome}
 use Rattle.dc_int.specs.Sorts.{fitted}
 use Rattle.dc_int.specs.Store.{Store, value_at, put_at, bounds_of, elements_in, extent, offset_in, joined_position, position_in, Bounds}
+use Rattle.dc_code.specs.Closing.{Localities}
 use Rattle.dc_code.specs.Computation.{Computation, give, fail, read, define, undefine, contribute, ask, pause, sequence, over}
-use Rattle.dc_code.specs.Loops.{Form, Passage}
-use Rattle.dc_code.specs.Troubles.{Computing}
-use Rattle.dc_code.proofs.Passages.{through-over}
-use Rattle.dc_tree.specs.declared.symbols.Symbol.{Symbol}
+use Rattle.dc_code.specs.Laws.{NeverPauses, IsOwn}
+use Rattle.dc_code.specs.Troubles.{Slots}
 use Rattle.dc_tree.specs.declared.token.Suffix.{Suffix}
 use Rattle.dc_tree.specs.Blocks as blocks
 use Rattle.dc_tree.specs.Blocks.{Line, Source, Items, none, and_then, plain, branch, select}
@@ -33,32 +34,29 @@ use Rattle.dc_tree.specs.Typing.{joined, sort_of, sort_of_entity}
 use Rattle.dc_meaning.specs.Acts as acts
 use Rattle.dc_meaning.specs.Acts.{Place, outer, in_frame, State, Act, ◌>>=◌, just, wrong, for_each, load, required, refer_to}
 use Rattle.dc_meaning.specs.Actions.{Flow, on, returns, cycles, exits, places_of, assignment}
-use Rattle.dc_meaning.specs.Alone.{nth_loop, block_alone, index_name}
 use Rattle.dc_meaning.specs.Execution.{plain_line, exec_all, behind_item}
+use Rattle.dc_meaning.specs.Headers.{inside_frame}
 use Rattle.dc_meaning.specs.Places.{bounds_of_entity, position_at, place_of, element_at, value_at_entity}
 use Rattle.dc_meaning.specs.Storing.{stored, assigned}
 use Rattle.dc_meaning.specs.Values.{Callee, settled, value}
-use Rattle.dc_meaning.specs.Visiting.{loop_parts}
 use Rattle.dc_meaning.specs.Walking.{state_in}
-use Rattle.dc_meaning.proofs.Looping.{block-form}
 use Rattle.dc_meaning.proofs.Performing.{assignment-is}
-use Rattle.dc_meaning.proofs.Quiet.{is_placed, scalar-placed, vector-placed, target-placed}
+use Rattle.dc_meaning.proofs.Placed.{is_placed, scalar-placed, vector-placed, target-placed}
 use Rattle.dc_meaning.proofs.Valuing.{scalar-value, vector-value, subscript-small}
-use Rattle.dc_meaning.proofs.Visitable.{within, at, form-here, scope-small, block-plain, entering, passage-is}
 
 -- ---- computations
 
-abbrev Any : {A : Type 0} → A → Type 0
+abbrev pub Any : {A : Type 0} → A → Type 0
 Any a = Unit {0}
 
--- Each access is of an element with P, and there is no pause; Q holds of the result.
-abbrev Only : {E T A : Type 0} → (ElementId → Type 0) → (A → Type 0) → Computation E T A → Type 0
+-- Each access is of an element with P, there is no contribution and no pause, and Q holds of the result.
+abbrev pub Only : {E T A : Type 0} → (ElementId → Type 0) → (A → Type 0) → Computation E T A → Type 0
 Only P Q (give a) = Q a
 Only P Q (fail trouble) = Unit {0}
 Only P Q (read x line rest) = P x × ((state : Option ℤ) → Only P Q (rest state))
 Only P Q (define x value line rest) = P x × Only P Q rest
 Only P Q (undefine x line rest) = P x × Only P Q rest
-Only P Q (contribute x op value rest) = P x × Only P Q rest
+Only P Q (contribute x op value rest) = ⊥
 Only P Q (ask variable rest) = (bounds : Option Bounds) → Only P Q (rest bounds)
 Only P Q (pause event rest) = ⊥
 
@@ -68,12 +66,12 @@ only-then P Q R (fail trouble) next own later = tt
 only-then P Q R (read x line rest) next own later = (own.0, λ state. only-then P Q R (rest state) next (own.1 state) later)
 only-then P Q R (define x value line rest) next own later = (own.0, only-then P Q R rest next own.1 later)
 only-then P Q R (undefine x line rest) next own later = (own.0, only-then P Q R rest next own.1 later)
-only-then P Q R (contribute x op value rest) next own later = (own.0, only-then P Q R rest next own.1 later)
+only-then P Q R (contribute x op value rest) next own later = absurd own
 only-then P Q R (ask variable rest) next own later = λ bounds. only-then P Q R (rest bounds) next (own bounds) later
 only-then P Q R (pause event rest) next own later = absurd own
 
 -- the accesses over a store
-only-made : {E T A : Type 0} (P : ElementId → Type 0) (Q : A → Type 0) (store : Store) (c : Computation E T A) → Only P Q c → (k : ℕ) (access : Access)
+pub only-made : {E T A : Type 0} (P : ElementId → Type 0) (Q : A → Type 0) (store : Store) (c : Computation E T A) → Only P Q c → (k : ℕ) (access : Access)
     → slice_get (accesses_of (over store c).entries) k ≡ Some access → P access.element
 only-made P Q store (give a) own k access e = absurd (none-some access e)
 only-made P Q store (fail trouble) own k access e = absurd (none-some access e)
@@ -83,14 +81,40 @@ only-made P Q store (define x value line rest) own zero access e = subst (λ (a 
 only-made P Q store (define x value line rest) own (suc k) access e = only-made P Q (put_at store x (Some value)) rest own.1 k access e
 only-made P Q store (undefine x line rest) own zero access e = subst (λ (a : Access). P a.element) (same_Some _ access e) own.0
 only-made P Q store (undefine x line rest) own (suc k) access e = only-made P Q (put_at store x None) rest own.1 k access e
-only-made P Q store (contribute x op value rest) own k access e = only-made P Q store rest own.1 k access e
+only-made P Q store (contribute x op value rest) own k access e = absurd own
 only-made P Q store (ask variable rest) own k access e = only-made P Q store (rest (bounds_of store variable)) (own (bounds_of store variable)) k access e
 only-made P Q store (pause event rest) own k access e = absurd own
 
+-- so it comes to no pause
+pub only-quiet : {E T A : Type 0} (P : ElementId → Type 0) (Q : A → Type 0) (c : Computation E T A) → Only P Q c → NeverPauses c
+only-quiet P Q (give a) own = tt
+only-quiet P Q (fail trouble) own = tt
+only-quiet P Q (read x line rest) own = λ state. only-quiet P Q (rest state) (own.1 state)
+only-quiet P Q (define x value line rest) own = only-quiet P Q rest own.1
+only-quiet P Q (undefine x line rest) own = only-quiet P Q rest own.1
+only-quiet P Q (contribute x op value rest) own = absurd own
+only-quiet P Q (ask variable rest) own = λ bounds. only-quiet P Q (rest bounds) (own bounds)
+only-quiet P Q (pause event rest) own = absurd own
+
+-- and makes no contribution but of its own reductions
+pub only-contributes : {E T A : Type 0} (P : ElementId → Type 0) (Q : A → Type 0) (known : Localities) (store : Store) (c : Computation E T A) → Only P Q c
+    → All (IsOwn known) (over store c).entries
+only-contributes P Q known store (give a) own = All-nil (IsOwn known)
+only-contributes P Q known store (fail trouble) own = All-nil (IsOwn known)
+only-contributes P Q known store (read x line rest) own =
+    All-cons (IsOwn known) (Reads x line) (over store (rest (value_at store x))).entries tt (only-contributes P Q known store (rest (value_at store x)) (own.1 (value_at store x)))
+only-contributes P Q known store (define x value line rest) own =
+    All-cons (IsOwn known) (Defines x value line) (over (put_at store x (Some value)) rest).entries tt (only-contributes P Q known (put_at store x (Some value)) rest own.1)
+only-contributes P Q known store (undefine x line rest) own =
+    All-cons (IsOwn known) (Undefines x line) (over (put_at store x None) rest).entries tt (only-contributes P Q known (put_at store x None) rest own.1)
+only-contributes P Q known store (contribute x op value rest) own = absurd own
+only-contributes P Q known store (ask variable rest) own = only-contributes P Q known store (rest (bounds_of store variable)) (own (bounds_of store variable))
+only-contributes P Q known store (pause event rest) own = absurd own
+
 -- ---- acts
 
-record Own {A : Type 0} (P : ElementId → Type 0) (Q : A → Type 0) (act : Act A) : Type 0 where
-  holds : (state : State) → Only P (λ w. Q w.0) (act state)
+pub record Own {A : Type 0} (P : ElementId → Type 0) (Q : A → Type 0) (act : Act A) : Type 0 where
+  pub holds : (state : State) → Only P (λ w. Q w.0) (act state)
 
 abbrev OwnPlace : (ElementId → Type 0) → Place → Type 0
 OwnPlace P (outer x) = P x
@@ -328,7 +352,7 @@ module _ (P : ElementId → Type 0) (scope : Scope) (own : (text : Name) → Own
   line-own call line (statements.do_while label test) e = cc
   line-own call line (statements.end_do label) e = cc
 
-  block-own : (call : Callee) (counted : ℕ) (body : Items) → is_small_block scope body ≡ true → Own P Any (exec_all scope call counted body)
+  pub block-own : (call : Callee) (counted : ℕ) (body : Items) → is_small_block scope body ≡ true → Own P Any (exec_all scope call counted body)
   block-own call counted none e = just-own P on tt
   block-own call counted (and_then (plain line) rest) e =
       let both = and_parts (is_small_assignment scope false line.says) (is_small_block scope rest) e in
@@ -338,24 +362,22 @@ module _ (P : ElementId → Type 0) (scope : Scope) (own : (text : Name) → Own
   block-own call counted (and_then (select head arms close) rest) e = cc
   block-own call counted (and_then (blocks.loop head body close) rest) e = cc
 
--- ---- an iteration
+-- the same in a frame
+pub frame-only : {A B : Type 0} (P : ElementId → Type 0) (own : Slots) (turns : ℕ) (act : Act A) (tell : A → ℕ → B) → Own P Any act → Only P Any (inside_frame own turns act tell)
+frame-only P own turns act tell only =
+    only-then P Any Any (act (state_in own turns)) (λ w. give (tell w.0 (w.1).turns)) (only.holds (state_in own turns)) (λ w any. tt)
 
-module _ (P : ElementId → Type 0) (symbols : List Symbol) (source : Source) (turns number : ℕ) (head : Line) (block : Items) (form : is_small_program symbols source ≡ true)
-    (is : Some (head, block) ≡ nth_loop number source.body) (own : (text : Name) → OwnEntity P (entity (with_index (main_scope symbols) (index_name head.says)) text)) where
-  block-only : (z : ℤ) → Only P Any (block_alone symbols source number (z ∷ []) turns)
-  block-only z =
-      let here = at symbols source turns number head block form is in
-      let scope = with_index (main_scope symbols) (index_name head.says) in
-      let act = exec_all scope (within symbols source turns number head block form is).call (suc here.counted) block in
-      let start = state_in ((Some z ∷ []) ∷ []) (within symbols source turns number head block form is).turns in
-      let only = block-own P scope own (within symbols source turns number head block form is).call (suc here.counted) block (scope-small symbols source turns number head block form is) in
-      subst (λ (c : Computing ℕ). Only P Any c)
-      (sym (ap (λ (f : Form). f.block [] (z ∷ [])) (form-here symbols source turns number head block form is) ∙ block-form (within symbols source turns number head block form is) symbols here.counted head block here.small z))
-      (only-then P Any Any (act start) (λ w. give (w.1).turns) (only.holds start) (λ w any. tt))
+-- ---- any elements
 
-  -- The accesses of an iteration alone are of elements with P.
-  pub iteration-own : (store : Store) (z : ℤ) (k : ℕ) (access : Access) → slice_get (accesses_of ((loop_parts symbols source turns number).block store [] (z ∷ [])).entries) k ≡ Some access → P access.element
-  iteration-own store z k access e =
-      let c = block_alone symbols source number (z ∷ []) turns in
-      let run = passage-is symbols source turns number head block form is store z ∙ through-over (entering symbols source turns number head block form is) store [] c (block-plain symbols source turns number head block form is z) in
-      only-made P Any store c (block-only z) k access (ap (λ (p : Passage). slice_get (accesses_of p.entries) k) (sym run) ∙ e)
+abbrev pub AnyElement : ElementId → Type 0
+AnyElement x = Unit {0}
+
+pub any-own : (e : Entity) → OwnEntity AnyElement e
+any-own (outside variable sort bounds) = λ position below. tt
+any-own (slots group sort bounds) = tt
+any-own (dummy place sort) = tt
+any-own (constant sort z) = tt
+any-own (function procedure sort) = tt
+any-own (subroutine procedure intents) = tt
+any-own (reduction variable op sort bounds) = tt
+any-own nothing = tt

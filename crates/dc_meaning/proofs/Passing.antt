@@ -144,17 +144,17 @@ ends-walks call turns (Err Stop.NoMemory) walks = record { answers = tt }
 ends-as : {before after : View} {c other : Computing ℕ} {r : Result (Unit {0}) Stop} → c ≡ other → Ends before other after r → Ends before c after r
 ends-as {before = before} {after = after} {r = r} same ends = subst (λ d. Ends before d after r) (sym same) ends
 
-abbrev pub form-by : List Symbol → Source → ℕ → Option Concurrent → Form
-form-by symbols source turns None = no_loop
-form-by symbols source turns (Some found) = form_of (surroundings symbols source turns) found []
+abbrev pub form-by : List Symbol → Source → ℕ → Slots → Option Concurrent → Form
+form-by symbols source turns around None = no_loop
+form-by symbols source turns around (Some found) = form_of (surroundings symbols source turns) found around
 
 abbrev pub loops-in : List Symbol → Source → ℕ → List Concurrent
 loops-in symbols source turns = loops_of_all (surroundings symbols source turns) (main_scope symbols) 0 source.body
 
-pub form-is : (symbols : List Symbol) (source : Source) (turns number : ℕ) (found : Option Concurrent) → slice_get (loops-in symbols source turns) number ≡ found
-    → program_forms symbols source turns number [] ≡ form-by symbols source turns found
-form-is symbols source turns number None at = rw at refl
-form-is symbols source turns number (Some found) at = rw at refl
+pub form-is : (symbols : List Symbol) (source : Source) (turns number : ℕ) (around : Slots) (found : Option Concurrent) → slice_get (loops-in symbols source turns) number ≡ found
+    → program_forms symbols source turns number around ≡ form-by symbols source turns around found
+form-is symbols source turns number around None at = rw at refl
+form-is symbols source turns number around (Some found) at = rw at refl
 
 module _ (symbols : List Symbol) (source : Source) (form : is_small_program symbols source ≡ true) (number : ℕ) where
   items-small : are_small_items (main_scope symbols) source.body ≡ true
@@ -165,7 +165,7 @@ module _ (symbols : List Symbol) (source : Source) (form : is_small_program symb
   pub symbols-small : are_small_symbols symbols ≡ true
   symbols-small = (and_parts (are_small_symbols symbols) (has_no_procedures source && are_small_items (main_scope symbols) source.body) form).0
 
-  found-at : (turns : ℕ) → IsLoop (main_scope symbols) (loops-in symbols source turns) number (nth_loop number source.body)
+  pub found-at : (turns : ℕ) → IsLoop (main_scope symbols) (loops-in symbols source turns) number (nth_loop number source.body)
   found-at turns = loop-found (surroundings symbols source turns) (main_scope symbols) 0 number source.body items-small
 
   pub loop-at : (turns : ℕ) (head : Line) (body : Items) → Some (head, body) ≡ nth_loop number source.body → LoopAt (main_scope symbols) (loops-in symbols source turns) number head body
@@ -184,22 +184,22 @@ module _ (symbols : List Symbol) (source : Source) (form : is_small_program symb
       let at = loop-at turns head body is in
       let within = surroundings symbols source turns in
       ends-as
-      (ap (λ (f : Form). f.block [] (z ∷ [])) (form-is symbols source turns number (Some (small-concurrent (main_scope symbols) at.counted head body at.small.ranging)) at.at)
+      (ap (λ (f : Form). f.block [] (z ∷ [])) (form-is symbols source turns number [] (Some (small-concurrent (main_scope symbols) at.counted head body at.small.ranging)) at.at)
       ∙ block-form within symbols at.counted head body at.small z)
       (ends-walks within.call within.turns r (walks (suc at.counted)))
 
   pub none-ends : {view : View} (z : ℤ) (turns : ℕ) → None ≡ nth_loop number source.body → Ends view (block_alone symbols source number (z ∷ []) turns) view (Ok tt)
   none-ends z turns is =
-      ends-as (ap (λ (f : Form). f.block [] (z ∷ [])) (form-is symbols source turns number None (none-at turns is))) (record { answers = (0, refl) })
+      ends-as (ap (λ (f : Form). f.block [] (z ∷ [])) (form-is symbols source turns number [] None (none-at turns is))) (record { answers = (0, refl) })
 
   pub no-copies : (turns : ℕ) → (program_forms symbols source turns number []).copied ≡ []
   no-copies turns = by (nth_loop number source.body) (found-at turns)
     where
       by : (found : Option (Line × Items)) → IsLoop (main_scope symbols) (loops-in symbols source turns) number found → (program_forms symbols source turns number []).copied ≡ []
-      by None at = ap (λ (f : Form). f.copied) (form-is symbols source turns number None at)
+      by None at = ap (λ (f : Form). f.copied) (form-is symbols source turns number [] None at)
       by (Some found) at =
-          ap (λ (f : Form). f.copied) (form-is symbols source turns number (Some (small-concurrent (main_scope symbols) at.counted found.0 found.1 at.small.ranging)) at.at)
-          ∙ copies-form (surroundings symbols source turns) symbols at.counted found.0 found.1 at.small
+          ap (λ (f : Form). f.copied) (form-is symbols source turns number [] (Some (small-concurrent (main_scope symbols) at.counted found.0 found.1 at.small.ranging)) at.at)
+          ∙ copies-form (surroundings symbols source turns) symbols at.counted found.0 found.1 at.small []
 
 -- ---- an iteration alone
 

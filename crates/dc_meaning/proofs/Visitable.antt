@@ -16,7 +16,7 @@ use Rattle.dc_code.proofs.Runs.{replayed}
 use Rattle.dc_tree.specs.declared.symbols.Role as roles
 use Rattle.dc_tree.specs.declared.symbols.Symbol.{Symbol}
 use Rattle.dc_tree.specs.Blocks.{Line, Items, Source}
-use Rattle.dc_tree.specs.Entities.{Entity, entity_in, result_in, procedure_entity, symbols_in, outer_names, main_scope}
+use Rattle.dc_tree.specs.Entities.{Entity, Scope, entity, entity_in, result_in, procedure_entity, symbols_in, outer_names, main_scope}
 use Rattle.dc_tree.specs.SmallPrograms.{with_index, is_small_program, is_small_block}
 use Rattle.dc_tree.specs.Statements.{Name}
 use Rattle.dc_meaning.specs.declared.stop.Stop.{Stop}
@@ -31,7 +31,7 @@ use Rattle.dc_meaning.specs.Walking.{View}
 use Rattle.dc_meaning.proofs.Heading.{opened-is}
 use Rattle.dc_meaning.proofs.Looping.{small-concurrent, LoopAt, block-form}
 use Rattle.dc_meaning.proofs.Passing.{form-is, loops-in, loop-at, loop-ends, loop-small, no-copies, symbols-small, passes-well, passes-badly}
-use Rattle.dc_meaning.proofs.Quiet.{block-quiet, frame-quiet}
+use Rattle.dc_meaning.proofs.Own.{Any, AnyElement, any-own, only-quiet, block-own, frame-only}
 use Rattle.dc_meaning.proofs.Walking.{seen-run}
 
 -- ---- an iteration
@@ -85,7 +85,7 @@ none-reduced all number (symbol ∷ rest) name = by symbol.role refl (none-reduc
     by (roles.Role.Result logical kind) is behind others = rw is others
 
 module _ (within : Surroundings) (symbols : List Symbol) (loop : Concurrent) (none : loop.locality ≡ []) (around : loop.around ≡ main_scope symbols) where
-  all-plain : (number : ℕ) (found : Option Outside) → slice_get within.outsides number ≡ found → (localities_of within loop).locality number ≡ Locality.Plain
+  pub all-plain : (number : ℕ) (found : Option Outside) → slice_get within.outsides number ≡ found → (localities_of within loop).locality number ≡ Locality.Plain
   all-plain number None is = rw is refl
   all-plain number (Some variable) is = rw (is, none) refl
 
@@ -107,7 +107,10 @@ module _ (symbols : List Symbol) (source : Source) (turns number : ℕ) (head : 
   found = small-concurrent (main_scope symbols) at.counted head block at.small.ranging
 
   pub form-here : program_forms symbols source turns number [] ≡ form_of within found []
-  form-here = form-is symbols source turns number (Some found) at.at
+  form-here = form-is symbols source turns number [] (Some found) at.at
+
+  abbrev scope-here : Scope
+  scope-here = with_index (main_scope symbols) (index_name head.says)
 
   pub scope-small : is_small_block (with_index (main_scope symbols) (index_name head.says)) block ≡ true
   scope-small = ap (λ s. is_small_block (with_index (main_scope symbols) (index_name s)) block) at.small.is ∙ at.small.block
@@ -115,8 +118,8 @@ module _ (symbols : List Symbol) (source : Source) (turns number : ℕ) (head : 
   pub block-plain : (z : ℤ) → NeverPauses (block_alone symbols source number (z ∷ []) turns)
   block-plain z =
       subst (λ (c : Computing ℕ). NeverPauses c) (sym (ap (λ (f : Form). f.block [] (z ∷ [])) form-here ∙ block-form within symbols at.counted head block at.small z))
-      (frame-quiet ((Some z ∷ []) ∷ []) within.turns (exec_all (with_index (main_scope symbols) (index_name head.says)) within.call (suc at.counted) block) (λ flow left. left)
-      (block-quiet (with_index (main_scope symbols) (index_name head.says)) within.call (suc at.counted) block scope-small))
+      (only-quiet AnyElement Any _ (frame-only AnyElement ((Some z ∷ []) ∷ []) within.turns (exec_all scope-here within.call (suc at.counted) block) (λ flow left. left)
+      (block-own AnyElement scope-here (λ text. any-own (entity scope-here text)) within.call (suc at.counted) block scope-small)))
 
   abbrev pub entering : Entering
   entering inside left around here orders = inner judging (parts judging (program_forms symbols source turns) 63 inside around) left here orders

@@ -41,14 +41,14 @@ begins symbols cells output is none =
       room = omega (arith, long);
     }
 
-pub comes-to : (symbols : List Symbol) (source : Source) (turns : ℕ) (cells : View) (output : List ℕ) (after : standings.Standing) (ending : code.Ending) → cells ≡ first-view symbols → output ≡ []
+pub comes-to : (symbols : List Symbol) (source : Source) (turns : ℕ) (given : List ℕ) (cells : View) (output : List ℕ) (after : standings.Standing) (ending : code.Ending) → cells ≡ first-view symbols → output ≡ []
     → EndsSo (program_forms symbols source turns) symbols (main_scope symbols) source.body (beginning cells output) after ending
-    → IsRunOf symbols source turns (record { output = after.output; ending = ending })
-comes-to symbols source turns cells output after ending is none ends =
+    → IsRunOf symbols source turns given (record { output = after.output; ending = ending })
+comes-to symbols source turns given cells output after ending is none ends =
     let scope = main_scope symbols in
     let call = (surroundings symbols source turns).call in
-    let start : told_behind output (played (looping_in (program_forms symbols source turns)) (record { store = cells.store; input = []; used = length output }) (rest_of scope call turns 0 source.body))
-    ≡ told_behind [] (run judging symbols source turns [])
-    = λ i. told_behind (none i) (played (looping_in (program_forms symbols source turns)) (record { store = (is i).store; input = []; used = length (none i) }) (rest_of scope call turns 0 source.body)) in
-    let same = sym (ends.is call turns) ∙ start in
+    let start : told_behind output (played (looping_in (program_forms symbols source turns)) (record { store = cells.store; input = given; used = length output }) (rest_of scope call turns 0 source.body))
+    ≡ told_behind [] (run judging symbols source turns given)
+    = λ i. told_behind (none i) (played (looping_in (program_forms symbols source turns)) (record { store = (is i).store; input = given; used = length (none i) }) (rest_of scope call turns 0 source.body)) in
+    let same = sym (ends.is given call turns) ∙ start in
     record { output = ap (λ (t : Told). t.output) same; ending = ap (λ (t : Told). t.ending) same }

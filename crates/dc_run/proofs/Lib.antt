@@ -20,5 +20,6 @@ mod StatementRows
 pub mod Stepping
 pub mod Subscripts
 pub mod Telling
+pub mod VisitOrders
 mod VisitRows
 pub mod Visited

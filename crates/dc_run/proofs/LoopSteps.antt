@@ -43,15 +43,15 @@ use Rattle.dc_run.proofs.Stepping.{nothing-more, steps-as}
 abbrev pub behind-visit : standings.Standing → View → ℕ → standings.Standing
 behind-visit before after loops = record { cells = after; output = before.output; loops = loops }
 
-module _ (looping : Looping) (symbols : List Symbol) (before : standings.Standing) (after : View) (loops turns : ℕ) (next : Flow × State → Computing Unit) where
+module _ (given : List ℕ) (looping : Looping) (symbols : List Symbol) (before : standings.Standing) (after : View) (loops turns : ℕ) (next : Flow × State → Computing Unit) where
   abbrev rest : Standing → ℤ → Outcome
   rest then_at told = played looping then_at (sequence (give (on, record { frames = (state_in [] turns).frames; turns = natural told })) next)
 
   abbrev visit-told : Visited → Told
-  visit-told found = told_behind before.output (visits_loop (λ number slots left store. found) (at_of before) before.loops turns [] rest)
+  visit-told found = told_behind before.output (visits_loop (λ number slots left store. found) (at_of given before) before.loops turns [] rest)
 
   said-told : (said : answers.Verdict) → bounds_in before.cells.store (seen said) ≡ bounds_named symbols said
-      → visit-told (visit_of (seen said) after.store turns) ≡ told_after looping symbols (behind-visit before after loops) (next (on, state_in [] turns)) (stopped_by said)
+      → visit-told (visit_of (seen said) after.store turns) ≡ told_after given looping symbols (behind-visit before after loops) (next (on, state_in [] turns)) (stopped_by said)
   said-told answers.Verdict.GoOn bounds = refl
   said-told (answers.Verdict.HeaderFault why line mask) bounds = nothing-more before.output _ ∙ ap (λ b. record { output = before.output; ending = endings.stopped (seen (answers.Verdict.HeaderFault why line mask)) b }) bounds
   said-told (answers.Verdict.IterFault why line at) bounds = nothing-more before.output _ ∙ ap (λ b. record { output = before.output; ending = endings.stopped (seen (answers.Verdict.IterFault why line at)) b }) bounds
@@ -63,8 +63,8 @@ pub steps-loop : (looping : Looping) (symbols : List Symbol) (before : standings
     → Steps looping symbols before (behind-visit before after loops) (λ call. concurrent_do before.loops) (stopped_by said)
 steps-loop looping symbols before after parts said loops runs visit bounds own =
     record {
-      is = λ call turns next.
-          ap (visit-told looping symbols before after loops turns next) (runs.is turns before.cells.store ∙ visit.is turns) ∙ said-told looping symbols before after loops turns next said bounds;
+      is = λ given call turns next.
+          ap (visit-told given looping symbols before after loops turns next) (runs.is turns before.cells.store ∙ visit.is turns) ∙ said-told given looping symbols before after loops turns next said bounds;
       own = own;
     }
 

@@ -30,7 +30,8 @@ use Rattle.dc_meaning.specs.Judging.{combination}
 use Rattle.dc_meaning.specs.Programs.{program_forms}
 use Rattle.dc_meaning.specs.Visiting.{index_values, IsVisitable, IsVisit}
 use Rattle.dc_meaning.proofs.Naming.{small-one, small-role, small-all, found_at, entity_by, main-found}
-use Rattle.dc_meaning.proofs.Own.{OwnEntity, iteration-own}
+use Rattle.dc_meaning.proofs.Iterating.{iteration-own}
+use Rattle.dc_meaning.proofs.Own.{OwnEntity}
 use Rattle.dc_meaning.proofs.Passing.{symbols-small}
 use Rattle.dc_meaning.proofs.Storing.{vector-size}
 use Rattle.dc_run.specs.Answered.{variable_of, bounds_in_role, declared_bounds, IsThere}

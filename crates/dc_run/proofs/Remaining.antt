@@ -26,26 +26,26 @@ use Rattle.dc_run.proofs.Stepping.{nothing-more}
 
 -- ---- a step, and the rest
 
-abbrev pub told-of : Looping → standings.Standing → Scope → Callee → ℕ → ℕ → Items → Told
-told-of looping standing scope call turns number items = told_behind standing.output (played looping (at_of standing) (rest_of scope call turns number items))
+abbrev pub told-of : List ℕ → Looping → standings.Standing → Scope → Callee → ℕ → ℕ → Items → Told
+told-of given looping standing scope call turns number items = told_behind standing.output (played looping (at_of given standing) (rest_of scope call turns number items))
 
-module _ (looping : Looping) (symbols : List Symbol) (scope : Scope) (before after : standings.Standing) (first : Item) (rest : Items) (call : Callee) (turns : ℕ) where
+module _ (given : List ℕ) (looping : Looping) (symbols : List Symbol) (scope : Scope) (before after : standings.Standing) (first : Item) (rest : Items) (call : Callee) (turns : ℕ) where
   abbrev next : Flow × State → Computing Unit
   next w = sequence (behind_item (exec_all scope call (before.loops + loops_in first) rest) w.0 w.1) (λ w. give tt)
 
-  apart : told-of looping before scope call turns before.loops (and_then first rest)
-      ≡ told_behind before.output (played looping (at_of before) (sequence (exec scope call before.loops first (state_in [] turns)) next))
+  apart : told-of given looping before scope call turns before.loops (and_then first rest)
+      ≡ told_behind before.output (played looping (at_of given before) (sequence (exec scope call before.loops first (state_in [] turns)) next))
   apart =
-      ap (λ c. told_behind before.output (played looping (at_of before) c))
+      ap (λ c. told_behind before.output (played looping (at_of given before) c))
       (sequence-then (exec scope call before.loops first (state_in [] turns)) (λ w. behind_item (exec_all scope call (before.loops + loops_in first) rest) w.0 w.1) (λ w. give tt))
 
   pub rest-next : Steps looping symbols before after (λ call. exec scope call before.loops first) None → after.loops ≡ before.loops + loops_in first
-      → told-of looping before scope call turns before.loops (and_then first rest) ≡ told-of looping after scope call turns after.loops rest
-  rest-next steps loops = apart ∙ steps.is call turns next ∙ ap (λ n. told-of looping after scope call turns n rest) (sym loops)
+      → told-of given looping before scope call turns before.loops (and_then first rest) ≡ told-of given looping after scope call turns after.loops rest
+  rest-next steps loops = apart ∙ steps.is given call turns next ∙ ap (λ n. told-of given looping after scope call turns n rest) (sym loops)
 
   pub rest-ended : (ending : code.Ending) → Steps looping symbols before after (λ call. exec scope call before.loops first) (Some ending)
-      → told-of looping before scope call turns before.loops (and_then first rest) ≡ record { output = after.output; ending = ending_of symbols ending }
-  rest-ended ending steps = apart ∙ steps.is call turns next
+      → told-of given looping before scope call turns before.loops (and_then first rest) ≡ record { output = after.output; ending = ending_of symbols ending }
+  rest-ended ending steps = apart ∙ steps.is given call turns next
 
 -- ---- loops by their numbers
 
@@ -85,7 +85,7 @@ next-is nodes at node below is =
     let more : suc at ≡ at + 1 = omega arith in
     ap (λ ns. items_from (map item ns)) (drop-cons nodes at node below ∙ ap (λ n. n ∷ drop (suc at) nodes) (sym is) ∙ ap (λ k. node ∷ drop k nodes) more)
 
-pub nothing-left : (looping : Looping) (symbols : List Symbol) (standing : standings.Standing) (scope : Scope) (call : Callee) (turns number : ℕ) (nodes : List Node) → nodes ≡ []
-    → told-of looping standing scope call turns number (items_from (map item nodes)) ≡ record { output = standing.output; ending = ending_of symbols code.Ending.Done }
-nothing-left looping symbols standing scope call turns number nodes empty =
-    ap (λ ns. told-of looping standing scope call turns number (items_from (map item ns))) empty ∙ nothing-more standing.output endings.done
+pub nothing-left : (given : List ℕ) (looping : Looping) (symbols : List Symbol) (standing : standings.Standing) (scope : Scope) (call : Callee) (turns number : ℕ) (nodes : List Node) → nodes ≡ []
+    → told-of given looping standing scope call turns number (items_from (map item nodes)) ≡ record { output = standing.output; ending = ending_of symbols code.Ending.Done }
+nothing-left given looping symbols standing scope call turns number nodes empty =
+    ap (λ ns. told-of given looping standing scope call turns number (items_from (map item ns))) empty ∙ nothing-more standing.output endings.done

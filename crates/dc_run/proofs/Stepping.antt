@@ -42,14 +42,14 @@ pub seen-shape : {A : Type 0} (before after : View) (c : Computing A) (reached :
 seen-shape before after c reached seen =
     subst (SameShape before.store) (sym (replayed before.store c) ∙ store-is before after c reached seen) (shape-after (over before.store c).entries before.store)
 
-pub seen-played : {A : Type 0} (looping : Looping) (before : standings.Standing) (after : View) (c : Computing A) (reached : Reached Event Failure A) (next : A → Computing Unit)
+pub seen-played : {A : Type 0} (given : List ℕ) (looping : Looping) (before : standings.Standing) (after : View) (c : Computing A) (reached : Reached Event Failure A) (next : A → Computing Unit)
     → seen_over before.cells c ≡ (after, reached)
-    → played looping (at_of before) (sequence c next) ≡ resumed_from looping (record { store = after.store; input = []; used = length before.output }) reached next
-seen-played looping before after c reached next seen =
+    → played looping (at_of given before) (sequence c next) ≡ resumed_from looping (record { store = after.store; input = given; used = length before.output }) reached next
+seen-played given looping before after c reached next seen =
     let stores = store-is before.cells after c reached seen in
     let ends = reached-is before.cells after c reached seen in
-    played-then looping (at_of before) c next
-    ∙ (λ i. resumed_from looping (record { store = stores i; input = []; used = length before.output }) (ends i) next)
+    played-then looping (at_of given before) c next
+    ∙ (λ i. resumed_from looping (record { store = stores i; input = given; used = length before.output }) (ends i) next)
 
 -- ---- acts that leave the output
 
@@ -60,8 +60,8 @@ pub steps-on : {act : Callee → Act Flow} (looping : Looping) (symbols : List S
     → Steps looping symbols before (moved before after) act None
 steps-on {act = act} looping symbols before after walks =
     record {
-      is = λ call turns next.
-          ap (told_behind before.output) (seen-played looping before after (act call (state_in [] turns)) (done (on, state_in [] turns)) next (walks.answers call turns));
+      is = λ given call turns next.
+          ap (told_behind before.output) (seen-played given looping before after (act call (state_in [] turns)) (done (on, state_in [] turns)) next (walks.answers call turns));
       own = tt;
     }
 
@@ -73,10 +73,10 @@ pub steps-bad : {tell : Unit {0} → Flow} {act : Callee → Act Flow} (looping 
     → Walks tell [] before.cells act after (Err stop) → IsEndBy stop met → Steps looping symbols before (moved before after) act met
 steps-bad {act = act} looping symbols before after (Stop.Failed why line) met walks is =
     record {
-      is = λ call turns next.
-          ap (told_behind before.output) (seen-played looping before after (act call (state_in [] turns)) (bad (record { why = why; line = line })) next (walks.answers call turns))
+      is = λ given call turns next.
+          ap (told_behind before.output) (seen-played given looping before after (act call (state_in [] turns)) (bad (record { why = why; line = line })) next (walks.answers call turns))
           ∙ nothing-more before.output (endings.bad (record { why = why; line = line }))
-          ∙ ap (told_after looping symbols (moved before after) (next (on, state_in [] turns))) (sym is);
+          ∙ ap (told_after given looping symbols (moved before after) (next (on, state_in [] turns))) (sym is);
       own = subst (MeetsOwn symbols) (sym is) tt;
     }
 steps-bad looping symbols before after Stop.NoMemory met walks is = absurd is
@@ -85,8 +85,8 @@ pub steps-as : {act other : Callee → Act Flow} (looping : Looping) (symbols : 
     → ((call : Callee) → act call ≡ other call) → Steps looping symbols before after other met → Steps looping symbols before after act met
 steps-as looping symbols before after met same steps =
     record {
-      is = λ call turns next.
-          ap (λ a. told_behind before.output (played looping (at_of before) (sequence (a (state_in [] turns)) next))) (same call) ∙ steps.is call turns next;
+      is = λ given call turns next.
+          ap (λ a. told_behind before.output (played looping (at_of given before) (sequence (a (state_in [] turns)) next))) (same call) ∙ steps.is given call turns next;
       own = steps.own;
     }
 
@@ -126,9 +126,9 @@ printing-is : (scope : Scope) (call : Callee) (line : ℕ) (tree : Tree) → pri
 printing-is scope call line tree =
     acts-then (pieces scope call line tree) (λ first. just [] >>= (λ rest. just (first ∷ rest))) (λ given. paused_for (write_line line (flat_map (λ items. items) given)) >> just on)
 
-module _ (looping : Looping) (symbols : List Symbol) (before : standings.Standing) (after : View) (line : ℕ) (bytes output : List ℕ) (next : Computing Unit) where
+module _ (given : List ℕ) (looping : Looping) (symbols : List Symbol) (before : standings.Standing) (after : View) (line : ℕ) (bytes output : List ℕ) (next : Computing Unit) where
   abbrev behind-line : ℕ → Outcome
-  behind-line used = played looping (record { store = after.store; input = []; used = used }) next
+  behind-line used = played looping (record { store = after.store; input = given; used = used }) next
 
   abbrev line-written : Bool → Outcome
   line-written room =
@@ -136,7 +136,7 @@ module _ (looping : Looping) (symbols : List Symbol) (before : standings.Standin
 
   output-step : (met : Option code.Ending) → IsWritten line bytes before.output output met
       → told_behind before.output (line-written (nat_le (length before.output + length bytes) greatest_output))
-      ≡ told_after looping symbols (record { cells = after; output = output; loops = before.loops }) next met
+      ≡ told_after given looping symbols (record { cells = after; output = output; loops = before.loops }) next met
   output-step None (room, is) =
       let fits : nat_le (length before.output + length bytes) greatest_output ≡ true = search (arith, room) in
       let long : length before.output + length bytes ≡ length (before.output ++ bytes) = sym (length-append before.output bytes) in
@@ -160,18 +160,18 @@ pub steps-print : (looping : Looping) (symbols : List Symbol) (before : standing
     → Steps looping symbols before (record { cells = after; output = output; loops = before.loops }) (λ call. printing scope call line (tree ∷ [])) met
 steps-print looping symbols before after scope line tree zs output met walks written =
     record {
-      is = λ call turns next.
+      is = λ given call turns next.
           let first = pieces scope call line tree (state_in [] turns) in
-          ap (λ a. told_behind before.output (played looping (at_of before) (sequence (a (state_in [] turns)) next))) (printing-is scope call line tree)
-          ∙ ap (λ c. told_behind before.output (played looping (at_of before) c)) (sequence-then first (λ w. written-then line w.0 w.1) next)
+          ap (λ a. told_behind before.output (played looping (at_of given before) (sequence (a (state_in [] turns)) next))) (printing-is scope call line tree)
+          ∙ ap (λ c. told_behind before.output (played looping (at_of given before) c)) (sequence-then first (λ w. written-then line w.0 w.1) next)
           ∙ ap (told_behind before.output)
-          (seen-played looping before after first (done (all-pieces zs, state_in [] turns)) (λ w. sequence (written-then line w.0 w.1) next) (walks.answers call turns))
+          (seen-played given looping before after first (done (all-pieces zs, state_in [] turns)) (λ w. sequence (written-then line w.0 w.1) next) (walks.answers call turns))
           ∙ ap
           (λ texts.
           told_behind before.output
-          (writes (record { store = after.store; input = []; used = length before.output }) line (line_of texts) (λ then_at told. played looping then_at (next (on, state_in [] turns)))))
+          (writes (record { store = after.store; input = given; used = length before.output }) line (line_of texts) (λ then_at told. played looping then_at (next (on, state_in [] turns)))))
           (pieces-text zs)
-          ∙ output-step looping symbols before after line (numbers_line zs) output (next (on, state_in [] turns)) met written;
+          ∙ output-step given looping symbols before after line (numbers_line zs) output (next (on, state_in [] turns)) met written;
       own = written-own symbols line (numbers_line zs) before.output output met written;
     }
 
@@ -216,7 +216,7 @@ pub steps-fresh : {act : Callee → Act Flow} (looping : Looping) (symbols : Lis
     → Steps looping symbols (moved before cells) after act met → Steps looping symbols before after act met
 steps-fresh {act = act} looping symbols before after cells met same steps =
     record {
-      is = λ call turns next.
-          ap (λ (v : View). told_behind before.output (played looping (record { store = v.store; input = []; used = length before.output }) (sequence (act call (state_in [] turns)) next))) (sym same) ∙ steps.is call turns next;
+      is = λ given call turns next.
+          ap (λ (v : View). told_behind before.output (played looping (record { store = v.store; input = given; used = length before.output }) (sequence (act call (state_in [] turns)) next))) (sym same) ∙ steps.is given call turns next;
       own = steps.own;
     }

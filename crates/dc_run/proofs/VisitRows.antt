@@ -24,7 +24,7 @@ abbrev visits_of : List Symbol → Source → List Visit
 visits_of symbols source = (run judging symbols source 1000 []).visits
 
 abbrev visit : ℕ → Store → Verdict → Visit
-visit number store verdict = record { loop = number; opening = store; verdict = verdict }
+visit number store verdict = record { loop = number; inside = []; turns = 1000; opening = store; verdict = verdict }
 
 abbrev with_cells : Bounds → List (Option ℤ) → Variable
 with_cells bounds cells = record { bounds = Some bounds; cells = cells }

@@ -39,11 +39,11 @@ ending_of symbols endings.Ending.Done = done
 ending_of symbols (endings.Ending.Bad why line) = bad (record { why = why; line = line })
 ending_of symbols (endings.Ending.Stopped verdict) = stopped (seen verdict) (bounds_named symbols verdict)
 
--- What the code answers for a program is what its run writes and how it ends, with so many turns and no
+-- What the code answers for a program is what its run writes and how it ends, with so many turns and this
 -- input.
-pub record IsRunOf (symbols : List Symbol) (source : Source) (turns : ℕ) (out : RunOut) : Type 0 where
-  pub output : out.output ≡ (run judging symbols source turns []).output
-  pub ending : ending_of symbols out.ending ≡ (run judging symbols source turns []).ending
+pub record IsRunOf (symbols : List Symbol) (source : Source) (turns : ℕ) (given : List ℕ) (out : RunOut) : Type 0 where
+  pub output : out.output ≡ (run judging symbols source turns given).output
+  pub ending : ending_of symbols out.ending ≡ (run judging symbols source turns given).ending
 
 -- An element that a race names is one of its variable's, which has no more than the greatest number of
 -- elements.

@@ -3,3 +3,4 @@ pub mod Playing
 pub mod ReportLine
 pub mod Running
 pub mod Sample
+pub mod VisitOrders

@@ -18,10 +18,12 @@ use Rattle.dc_tree.specs.Blocks.{Source}
 use Rattle.dc_meaning.specs.Programs.{first_store, main_computation, program_forms}
 use Rattle.dc_run.specs.ReportLine.{Ending, done, bad, stopped}
 
--- A loop that the main program reached: its number, the store with which it was reached, and what was said
--- of it.
+-- A loop that the main program reached: its number, the entities around it, the turns and the store with which
+-- it was reached, and what was said of it.
 pub record Visit : Type 0 where
   pub loop : ℕ
+  pub inside : Slots
+  pub turns : ℕ
   pub opening : Store
   pub verdict : Verdict
 
@@ -123,7 +125,7 @@ abbrev pub visits_loop : Looping → Standing → ℕ → ℕ → Slots → (Sta
 visits_loop looping at number turns slots rest = by (looping number slots turns at.store)
   where
     by : Visited → Outcome
-    by found = behind_visit (record { loop = number; opening = at.store; verdict = found.verdict }) (behind_loop at found rest)
+    by found = behind_visit (record { loop = number; inside = slots; turns = turns; opening = at.store; verdict = found.verdict }) (behind_loop at found rest)
 
 -- ---- the run
 

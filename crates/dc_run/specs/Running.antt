@@ -58,9 +58,9 @@ printed other = None
 
 -- ---- statements
 
--- Where a run stands, without what it wrote.
-abbrev pub at_of : standings.Standing → Standing
-at_of standing = record { store = standing.cells.store; input = []; used = length standing.output }
+-- Where a run stands with this input, without what it wrote.
+abbrev pub at_of : List ℕ → standings.Standing → Standing
+at_of given standing = record { store = standing.cells.store; input = given; used = length standing.output }
 
 -- What a run writes, and how it ends.
 pub record Told : Type 0 where
@@ -72,22 +72,22 @@ abbrev pub told_behind : List ℕ → Outcome → Told
 told_behind written outcome = record { output = written ++ outcome.output; ending = outcome.ending }
 
 -- What is told where the run goes on from here, and where it ends here.
-abbrev pub told_after : Looping → List Symbol → standings.Standing → Computing Unit → Option code.Ending → Told
-told_after looping symbols after next None = told_behind after.output (played looping (at_of after) next)
-told_after looping symbols after next (Some ending) = record { output = after.output; ending = ending_of symbols ending }
+abbrev pub told_after : List ℕ → Looping → List Symbol → standings.Standing → Computing Unit → Option code.Ending → Told
+told_after given looping symbols after next None = told_behind after.output (played looping (at_of given after) next)
+told_after given looping symbols after next (Some ending) = record { output = after.output; ending = ending_of symbols ending }
 
 -- Where the run ends here by a race, its element is there.
 abbrev pub MeetsOwn : List Symbol → Option code.Ending → Type 0
 MeetsOwn symbols None = Unit {0}
 MeetsOwn symbols (Some ending) = NamesOwn symbols ending
 
--- What a statement does to a run, whatever a call does and whatever follows: the run goes on behind it, or
+-- What a statement does to a run, whatever the input, whatever a call does and whatever follows: the run goes on behind it, or
 -- it ends. A race that ends it names an element that is there.
 pub record Steps (looping : Looping) (symbols : List Symbol) (before after : standings.Standing) (act : Callee → Act Flow) (met : Option code.Ending) : Type 0 where
   pub is
-      : (call : Callee) (turns : ℕ) (next : Flow × State → Computing Unit)
-      → told_behind before.output (played looping (at_of before) (sequence (act call (state_in [] turns)) next))
-      ≡ told_after looping symbols after (next (on, state_in [] turns)) met
+      : (given : List ℕ) (call : Callee) (turns : ℕ) (next : Flow × State → Computing Unit)
+      → told_behind before.output (played looping (at_of given before) (sequence (act call (state_in [] turns)) next))
+      ≡ told_after given looping symbols after (next (on, state_in [] turns)) met
   pub own : MeetsOwn symbols met
 
 -- A statement that isn't carried out ends the run.
@@ -151,7 +151,7 @@ rest_of scope call turns number items = inside_frame [] turns (exec_all scope ca
 -- names an element that is there.
 pub record EndsSo (forms : Forms) (symbols : List Symbol) (scope : Scope) (items : Items) (before after : standings.Standing) (ending : code.Ending) : Type 0 where
   pub is
-      : (call : Callee) (turns : ℕ)
-      → told_behind before.output (played (looping_in forms) (at_of before) (rest_of scope call turns before.loops items))
+      : (given : List ℕ) (call : Callee) (turns : ℕ)
+      → told_behind before.output (played (looping_in forms) (at_of given before) (rest_of scope call turns before.loops items))
       ≡ record { output = after.output; ending = ending_of symbols ending }
   pub own : NamesOwn symbols ending

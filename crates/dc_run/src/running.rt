@@ -1,6 +1,6 @@
 //! The run of a main program, statement by statement.
 
-ghost use Rattle.std.specs.Prelude.{◌≡◌, ◌+◌, ◌||◌, IsTrue, true, IfOk, map, ℕ, [], ◌∷◌};
+ghost use Rattle.std.specs.Prelude.{◌≡◌, ◌+◌, ◌||◌, IsTrue, true, IfOk, List, map, ℕ, [], ◌∷◌};
 ghost use Rattle.std.specs.Option.{option_copied};
 ghost use Rattle.dc_code.specs.Inner.{Forms};
 ghost use Rattle.dc_code.specs.Loops.{Parts};
@@ -248,7 +248,7 @@ fn run_body(
 pub fn run_program(alloc: Global, program: &Program, symbols: &Symbols) -> Result<RunOut, NoMemory>
     ghost turns: { ℕ }
     requires { IsTrue (is_small_program symbols.now (source_of program.now)) }
-    ensures is { IfOk result (λ out. IsRunOf symbols.now (source_of program.now) turns out) }
+    ensures is { IfOk result (λ out. (given : List ℕ) → IsRunOf symbols.now (source_of program.now) turns given out) }
     ensures owns { IfOk result (λ out. NamesOwn symbols.now out.ending) }
 {
     let cells = Cells::undefined(alloc, symbols)?;

@@ -37,9 +37,9 @@ returns-in-Some g c =
     let next = next-is c.args.nodes.now at c.node-item.result c.loop-node-test.true c.node-item.is in
     let steps = subst (Steps (looping_in g.forms) c.args.symbols.now c.loop-node.standing c.step.new.standing (λ call. exec scope call c.loop-node.standing.loops (item c.node-item.result))) c.in-Some.is c.in_ok-ending.ensures.steps in
     record {
-      is = λ call turns.
-          sym (i.left call turns) ∙ ap (told-of (looping_in g.forms) c.loop-node.standing scope call turns c.loop-node.standing.loops) next
-          ∙ rest-ended (looping_in g.forms) c.args.symbols.now scope c.loop-node.standing c.step.new.standing (item c.node-item.result) rest call turns c.in-Some.ending steps;
+      is = λ given call turns.
+          sym (i.left given call turns) ∙ ap (told-of given (looping_in g.forms) c.loop-node.standing scope call turns c.loop-node.standing.loops) next
+          ∙ rest-ended given (looping_in g.forms) c.args.symbols.now scope c.loop-node.standing c.step.new.standing (item c.node-item.result) rest call turns c.in-Some.ending steps;
       own = steps.own;
     }
 
@@ -61,7 +61,7 @@ loop-node-preserved g c =
       usual = c.in_ok-ending.ensures.usual;
       few = omega (arith, loops, one, few);
       numbers = numbers-on scope all rest (item c.node-item.result) c.loop-node.standing.loops c.step.new.standing.loops both.0 loops (λ n. i.numbers n ∙ ap (nth_loop n) next);
-      left = λ call turns.
-          sym (rest-next (looping_in g.forms) c.args.symbols.now scope c.loop-node.standing c.step.new.standing (item c.node-item.result) rest call turns steps loops)
-          ∙ sym (ap (told-of (looping_in g.forms) c.loop-node.standing scope call turns c.loop-node.standing.loops) next) ∙ i.left call turns;
+      left = λ given call turns.
+          sym (rest-next given (looping_in g.forms) c.args.symbols.now scope c.loop-node.standing c.step.new.standing (item c.node-item.result) rest call turns steps loops)
+          ∙ sym (ap (told-of given (looping_in g.forms) c.loop-node.standing scope call turns c.loop-node.standing.loops) next) ∙ i.left given call turns;
     }

@@ -1,4 +1,4 @@
-use Rattle.std.proofs.Common.{◌≡◌, ◌≤◌, ◌+◌, ℕ, IsTrue, drop, map}
+use Rattle.std.proofs.Common.{◌≡◌, ◌≤◌, ◌+◌, ℕ, List, IsTrue, drop, map}
 use Rattle.dc_tree.specs.Blocks.{item, items_from}
 use Rattle.dc_tree.specs.Entities.{main_scope}
 use Rattle.dc_tree.specs.SmallPrograms.{are_small_items}
@@ -18,7 +18,7 @@ invariant-loop-node g l =
       usual : IsUsual l.symbols l.standing;
       few : l.standing.loops ≤ l.node-index;
       numbers : (n : ℕ) → nth_loop (l.standing.loops + n) (items_from (map item l.nodes)) ≡ nth_loop n (items_from (map item (drop l.node-index l.nodes)));
-      left : (call : Callee) (turns : ℕ)
-          → told_behind l.standing.output (played (looping_in g.forms) (at_of l.standing) (rest_of (main_scope l.symbols) call turns l.standing.loops (items_from (map item (drop l.node-index l.nodes)))))
-          ≡ told_behind l.fn.standing.output (played (looping_in g.forms) (at_of l.fn.standing) (rest_of (main_scope l.symbols) call turns l.fn.standing.loops (items_from (map item l.nodes))));
+      left : (given : List ℕ) (call : Callee) (turns : ℕ)
+          → told_behind l.standing.output (played (looping_in g.forms) (at_of given l.standing) (rest_of (main_scope l.symbols) call turns l.standing.loops (items_from (map item (drop l.node-index l.nodes)))))
+          ≡ told_behind l.fn.standing.output (played (looping_in g.forms) (at_of given l.fn.standing) (rest_of (main_scope l.symbols) call turns l.fn.standing.loops (items_from (map item l.nodes))));
     }

@@ -10,8 +10,8 @@ run_body-requires g c =
     (parts.0, (parts.1, (are-visitable c.args.symbols.now source g.turns c.requires, (begins c.args.symbols.now c.in_ok-cells.cells c.new-output.result c.in_ok-cells.ensures c.new-output.ensures, refl))))
 
 pub returns-clause-is : goal.returns-clause-is
-returns-clause-is g c =
-    comes-to c.args.symbols.now (source_of c.args.program.now) g.turns c.in_ok-cells.cells c.new-output.result c.run_body.new.standing c.in_ok-ending.ending c.in_ok-cells.ensures c.new-output.ensures c.in_ok-ending.ensures
+returns-clause-is g c = λ given.
+    comes-to c.args.symbols.now (source_of c.args.program.now) g.turns given c.in_ok-cells.cells c.new-output.result c.run_body.new.standing c.in_ok-ending.ending c.in_ok-cells.ensures c.new-output.ensures c.in_ok-ending.ensures
 
 pub returns-clause-owns : goal.returns-clause-owns
 returns-clause-owns g c = c.in_ok-ending.ensures.own

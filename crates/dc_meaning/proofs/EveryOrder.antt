@@ -1,0 +1,95 @@
+-- What is said of a loop of today's form holds in every order of its iterations, wherever the loop is reached.
+use Rattle.std.proofs.Common.{◌≡◌, ℕ, suc, true, false, List, [], ◌∷◌, map, All, Option, Some, None, refl, sym, ap, ◌∙◌, subst}
+use Rattle.std.specs.Prelude.{ℤ, slice_get}
+use Rattle.std.specs.List.{list_any}
+use Rattle.dc_int.specs.declared.operation.ReduceOp.{ReduceOp}
+use Rattle.dc_int.specs.declared.variable.Locality.{Locality}
+use Rattle.dc_int.specs.Entries.{Entry}
+use Rattle.dc_int.specs.Store.{Store, value_at, same_element}
+use Rattle.dc_code.specs.EveryOrder.{SaysOfOrders}
+use Rattle.dc_code.specs.Inner.{judging, parts, inner, parts_with, greatest_depth}
+use Rattle.dc_code.specs.Laws.{HasPlainBlocks, TouchesOwn, HoldsOwn, IsOwn, may_touch}
+use Rattle.dc_code.specs.Loops.{Form, Copies, Passage, alone}
+use Rattle.dc_code.specs.Passages.{Entering}
+use Rattle.dc_code.specs.Troubles.{Slots, Computing}
+use Rattle.dc_code.proofs.EveryOrder.{says-of-orders}
+use Rattle.dc_code.proofs.Passages.{plain-framed, plain-differs, through-over}
+use Rattle.dc_tree.specs.declared.symbols.Symbol.{Symbol}
+use Rattle.dc_tree.specs.Blocks.{Line, Items, Source}
+use Rattle.dc_tree.specs.Entities.{Scope, entity, main_scope}
+use Rattle.dc_tree.specs.SmallPrograms.{is_small_program, is_small_block}
+use Rattle.dc_meaning.specs.Alone.{nth_loop}
+use Rattle.dc_meaning.specs.Concurrent.{Concurrent, Surroundings, block_scope, index_slots, locals_of, fresh_locals}
+use Rattle.dc_meaning.specs.Execution.{exec_all}
+use Rattle.dc_meaning.specs.Headers.{form_of}
+use Rattle.dc_meaning.specs.Numbering.{no_loop}
+use Rattle.dc_meaning.specs.Plainly.{plain}
+use Rattle.dc_meaning.specs.Programs.{surroundings, program_forms}
+use Rattle.dc_meaning.proofs.Looping.{small-concurrent, IsLoop, LoopAt, scope-is, copies-form}
+use Rattle.dc_meaning.proofs.Own.{Any, AnyElement, any-own, Only, only-quiet, only-contributes, block-own, frame-only}
+use Rattle.dc_meaning.proofs.Passing.{form-is, loops-in, found-at}
+use Rattle.dc_meaning.proofs.Visitable.{all-plain}
+
+-- A loop whose variables have unspecified locality, and whose blocks come to no pause and make no
+-- contribution.
+record IsPlain (form : Form) : Type 0 where
+  only : (copies : Copies) (at : List ℤ) → Only AnyElement Any (form.block copies at)
+  locality : form.known.locality ≡ plain
+  copied : form.copied ≡ []
+
+module _ (symbols : List Symbol) (source : Source) (small : is_small_program symbols source ≡ true) (turns number : ℕ) (around : Slots) where
+  abbrev within : Surroundings
+  within = surroundings symbols source turns
+
+  found-plain : (head : Line) (body : Items) → LoopAt (main_scope symbols) (loops-in symbols source turns) number head body
+      → IsPlain (program_forms symbols source turns number around)
+  found-plain head body at =
+      let found : Concurrent = small-concurrent (main_scope symbols) at.counted head body at.small.ranging in
+      let scope : Scope = block_scope within found in
+      let block : is_small_block scope body ≡ true = ap (λ s. is_small_block s body) (scope-is within symbols at.counted head body at.small) ∙ at.small.block in
+      subst IsPlain (sym (form-is symbols source turns number around (Some found) at.at)) (record {
+        only = λ copies values.
+            frame-only AnyElement _ within.turns (exec_all scope within.call (suc at.counted) body) (λ flow left. left)
+            (block-own AnyElement scope (λ text. any-own (entity scope text)) within.call (suc at.counted) body block);
+        locality = λ i place. all-plain within symbols found refl refl place (slice_get within.outsides place) refl i;
+        copied = copies-form within symbols at.counted head body at.small around;
+      })
+
+  no-plain : slice_get (loops-in symbols source turns) number ≡ None → IsPlain (program_forms symbols source turns number around)
+  no-plain none = subst IsPlain (sym (form-is symbols source turns number around None none)) (record { only = λ copies values. tt; locality = refl; copied = refl })
+
+  form-plain : IsPlain (program_forms symbols source turns number around)
+  form-plain = by (nth_loop number source.body) (found-at symbols source small number turns)
+    where
+      by : (found : Option (Line × Items)) → IsLoop (main_scope symbols) (loops-in symbols source turns) number found → IsPlain (program_forms symbols source turns number around)
+      by None at = no-plain at
+      by (Some found) at = found-plain found.0 found.1 at
+
+  abbrev form : Form
+  form = program_forms symbols source turns number around
+
+  never-pauses : HasPlainBlocks form
+  never-pauses copies at = only-quiet AnyElement Any (form.block copies at) (form-plain.only copies at)
+
+  abbrev enter : Entering
+  enter inside left slots store orders = inner judging (parts judging (program_forms symbols source turns) 63 inside slots) left store orders
+
+  touches-own : (store : Store) → TouchesOwn (parts_with enter form) store
+  touches-own store = record {
+    allowed = λ at x touched. ap (λ (locality : ℕ → Locality). may_touch (locality x.variable)) form-plain.locality;
+    apart = λ at x touched. ap (list_any (same_element x)) form-plain.copied;
+    contributed = λ at.
+        let block : Computing ℕ = form.block (map (value_at store) form.copied) at in
+        subst (λ (passage : Passage). All (IsOwn form.known) passage.entries)
+        (sym (through-over enter store [] block (never-pauses (map (value_at store) form.copied) at)))
+        (only-contributes AnyElement Any form.known store block (form-plain.only (map (value_at store) form.copied) at));
+  }
+
+  holds-own : (store : Store) → HoldsOwn form.known store
+  holds-own store = λ x op value reduces has.
+      let plainly : form.known.locality x.variable ≡ Locality.Plain = ap (λ (locality : ℕ → Locality). locality x.variable) form-plain.locality in
+      absurd (let no : Locality.Plain ≡ Locality.Reduce op = sym plainly ∙ reduces in cc)
+
+  pub loop-says : (left : ℕ) (store : Store) → SaysOfOrders (parts judging (program_forms symbols source turns) greatest_depth number around) left store
+  loop-says left store =
+      says-of-orders (parts_with enter form) store (plain-framed enter form never-pauses) (plain-differs enter form never-pauses) (touches-own store) (holds-own store) left
