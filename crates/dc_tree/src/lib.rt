@@ -4,6 +4,7 @@
 mod expr;
 mod fail;
 mod laws;
+mod logical_lines;
 mod program;
 mod stmt;
 mod symbols;
@@ -12,6 +13,7 @@ mod token;
 pub use expr::{Arg, Expr};
 pub use fail::{Fail, Refusal};
 pub use laws::{programs_are_told_apart, statements_are_told_apart, trees_are_told_apart};
+pub use logical_lines::Logical;
 pub use program::{Block, Lined, Node, Part, Procedure, Program};
 pub use stmt::{
     Action, Attr, Bound, Counted, Entity, Index, Init, Intent, Local, Prefix, Range, Stmt, Target,
