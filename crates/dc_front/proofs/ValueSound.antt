@@ -1,94 +1,95 @@
 -- What the reader of values has read spells what it holds.
-use Rattle.std.proofs.Common.{◌≡◌, ◌⊎◌, ℕ, suc, ◌+◌, ◌<◌, ◌≤◌, Bool, true, false, cond, eqb, leb, ◌&&◌, List, [], ◌∷◌, ◌++◌, length, Option, Some, None, refl, sym, ap, subst, ◌∙◌, arith, inl, inr, append_assoc, append-nil, length-append}
-use Rattle.std.specs.List.{list_all}
-use Rattle.std.proofs.lemmas.Bool.{and_parts, leb-true, le-leb, eqb-true, false≢true}
-use Rattle.std.proofs.lemmas.List.Folds.{list_all-append}
-use Rattle.std.proofs.lemmas.Option.{none-some, same_Some}
+use Rattle.std.proofs.Common.{◌≡◌, ◌⊎◌, ℕ, zero, suc, ◌+◌, ◌≤◌, Bool, true, false, cond, eqb, List, [], ◌∷◌, ◌++◌, Option, Some, None, refl, sym, ap, subst, ◌∙◌, arith, inl, inr, append_assoc, append-nil}
+use Rattle.std.proofs.lemmas.Bool.{eqb-true}
+use Rattle.std.proofs.lemmas.Option.{none-some, same_Some, some_pair_parts, option_and_then_some}
 use Rattle.dc_tree.specs.declared.token.Mark.{Mark}
-use Rattle.dc_tree.specs.Syntax.{Tree, name}
-use Rattle.dc_tree.specs.Grammar.{is_binary, rank, level, left_rank, right_rank, Ranked}
-use Rattle.dc_tree.proofs.Names.{letter-is_name}
-use Rattle.dc_front.specs.Value.{is_digit, is_literal, operator, blank, Joins, Writes, operands, SpellsTree}
-use Rattle.dc_front.specs.ValueReading.{Left, Progress, wants, in_digits, has, failed, times, plus, with_operand, with_operator, one_more, of_number, step_operand, step_has, step_digits, step, run, finish, start, tree_in}
-use Rattle.dc_front.proofs.ValueComplete.{IsJoin, operator-join}
+use Rattle.dc_tree.specs.Syntax.{Tree}
+use Rattle.dc_tree.specs.Grammar.{rank, Ranked}
+use Rattle.dc_front.specs.Value.{operator, Joins, Joined, operands_in, SpellsWith}
+use Rattle.dc_front.specs.Bytes.{blank}
+use Rattle.dc_front.specs.ValueReading.{times, plus, Left, past_blank, mark_in, joint_in, ended_with, left_behind, read, read_on, nothing_left}
+use Rattle.dc_front.proofs.Operators.{IsJoin, operator-join, IsSum, sum-ranks}
+
+-- ---- operators
+
+-- one blank or none at the front of a text
+pub blank-spelled : (text : List ℕ) → (spaced : Bool) × (text ≡ blank spaced ++ past_blank text)
+blank-spelled [] = (false, refl)
+blank-spelled (c ∷ text) = by_blank (eqb c 32) refl
+  where
+    by_blank : (b : Bool) → eqb c 32 ≡ b → (spaced : Bool) × (c ∷ text ≡ blank spaced ++ cond b text (c ∷ text))
+    by_blank true e = (true, ap (λ x. x ∷ text) (eqb-true c 32 e))
+    by_blank false e = (false, refl)
+
+-- an operator that was read stands at the front
+pub joint-spelled : (text : List ℕ) (mark : Mark) (next : List ℕ) → joint_in text ≡ Some (mark, next) → (joint : List ℕ) × Joins mark joint × IsJoin mark × (text ≡ joint ++ next)
+unfolding joint_in
+joint-spelled text mark next found = by_mark (past_blank text) (blank-spelled text) found
+  where
+    by_mark : (inner : List ℕ) → (spaced : Bool) × (text ≡ blank spaced ++ inner) → mark_in inner ≡ Some (mark, next) → (joint : List ℕ) × Joins mark joint × IsJoin mark × (text ≡ joint ++ next)
+    by_mark [] before found = absurd (none-some _ found)
+    by_mark (c ∷ rest) before found =
+        option_and_then_some (λ (m : Mark). Some (m, past_blank rest)) (operator c) (mark, next) found (λ m is parts.
+        let both = some_pair_parts m mark (past_blank rest) next parts in
+        let writes : operator c ≡ Some mark = is ∙ ap (λ (x : Mark). Some x) both.0 in
+        let behind = blank-spelled rest in
+        let joins : Joins mark (blank before.0 ++ c ∷ blank behind.0) = record { before = before.0; byte = c; after = behind.0; writes = writes; is = refl } in
+        let tail : rest ≡ blank behind.0 ++ next = behind.1 ∙ ap (λ x. blank behind.0 ++ x) both.1 in (
+          blank before.0 ++ c ∷ blank behind.0,
+          joins,
+          operator-join c mark writes,
+          before.1 ∙ ap (λ x. blank before.0 ++ c ∷ x) tail ∙ sym (append_assoc (blank before.0) (c ∷ blank behind.0) next),
+        ))
+
+-- ---- what stands to the left
 
 -- bytes that write a tree of at least this rank
-pub record Good (index least : ℕ) (e : Tree) (bytes : List ℕ) : Type 0 where
+pub record Good (Operand : Tree → List ℕ → Type 0) (least : ℕ) (e : Tree) (bytes : List ℕ) : Type 0 where
   pub ranked : Ranked e
   pub high : least ≤ rank e
-  pub written : Writes index e bytes
+  pub written : Joined Operand e bytes
 
 -- an operator that waits for an operand, with the bytes of its left side
-pub record Waits (index least : ℕ) (e : Tree) (mark : Mark) (bytes : List ℕ) : Type 0 where
+pub record Waits (Operand : Tree → List ℕ → Type 0) (least : ℕ) (e : Tree) (mark : Mark) (bytes : List ℕ) : Type 0 where
   pub first : List ℕ
   pub joint : List ℕ
-  pub good : Good index least e first
+  pub good : Good Operand least e first
   pub joins : Joins mark joint
   pub is : bytes ≡ first ++ joint
 
-abbrev pub IsSum : Mark → Type 0
-IsSum mark = (mark ≡ Mark.Plus) ⊎ (mark ≡ Mark.Minus)
+abbrev pub SumLeft : (Tree → List ℕ → Type 0) → Option (Tree × Mark) → List ℕ → Type 0
+SumLeft Operand None bytes = bytes ≡ []
+SumLeft Operand (Some sum) bytes = Waits Operand 5 sum.0 sum.1 bytes × IsSum sum.1
 
-abbrev pub SumLeft : ℕ → Option (Tree × Mark) → List ℕ → Type 0
-SumLeft index None bytes = bytes ≡ []
-SumLeft index (Some sum) bytes = Waits index 5 sum.0 sum.1 bytes × IsSum sum.1
+-- the bytes to the left of a product that is waited for
+pub record ProductLeft (Operand : Tree → List ℕ → Type 0) (sum : Option (Tree × Mark)) (product : Tree) (bytes : List ℕ) : Type 0 where
+  pub outer : List ℕ
+  pub inner : List ℕ
+  pub sums : SumLeft Operand sum outer
+  pub waits : Waits Operand 6 product Mark.Times inner
+  pub is : bytes ≡ outer ++ inner
+
+abbrev pub AllLeft : (Tree → List ℕ → Type 0) → Option (Tree × Mark) → Option Tree → List ℕ → Type 0
+AllLeft Operand sum None bytes = SumLeft Operand sum bytes
+AllLeft Operand sum (Some product) bytes = ProductLeft Operand sum product bytes
 
 abbrev pub sum_count : Option (Tree × Mark) → ℕ
 sum_count None = 0
-sum_count (Some sum) = operands sum.0
+sum_count (Some sum) = operands_in sum.0
 
 abbrev pub product_count : Option Tree → ℕ
 product_count None = 0
-product_count (Some product) = operands product
+product_count (Some product) = operands_in product
 
--- the bytes to the left of a product that is waited for
-pub record ProductLeft (index : ℕ) (sum : Option (Tree × Mark)) (product : Tree) (bytes : List ℕ) : Type 0 where
-  pub outer : List ℕ
-  pub inner : List ℕ
-  pub sums : SumLeft index sum outer
-  pub waits : Waits index 6 product Mark.Times inner
-  pub is : bytes ≡ outer ++ inner
-
-abbrev pub AllLeft : ℕ → Option (Tree × Mark) → Option Tree → List ℕ → Type 0
-AllLeft index sum None bytes = SumLeft index sum bytes
-AllLeft index sum (Some product) bytes = ProductLeft index sum product bytes
-
--- the bytes that were read write what the reader holds
-pub record WantsSound (index : ℕ) (fresh : Bool) (left : Left) (bytes : List ℕ) : Type 0 where
-  pub here : AllLeft index left.sum left.product bytes
-  pub spaced : fresh ≡ true → AllLeft index left.sum left.product (bytes ++ 32 ∷ [])
-  pub count : left.count ≡ sum_count left.sum + product_count left.product
-  pub few : left.count ≤ 100
-
-pub record DigitsSound (index : ℕ) (digits : List ℕ) (left : Left) (bytes : List ℕ) : Type 0 where
-  pub before : List ℕ
-  pub lefts : AllLeft index left.sum left.product before
-  pub literal : is_literal digits ≡ true
-  pub is : bytes ≡ before ++ digits
-  pub count : left.count ≡ (sum_count left.sum + product_count left.product) + 1
-  pub few : left.count ≤ 100
-
-pub record HasSound (index : ℕ) (spaced : Bool) (sum : Option (Tree × Mark)) (term : Tree) (count : ℕ) (bytes : List ℕ) : Type 0 where
-  pub before : List ℕ
-  pub own : List ℕ
-  pub sums : SumLeft index sum before
-  pub good : Good index 6 term own
-  pub is : bytes ≡ before ++ (own ++ blank spaced)
-  pub count_is : count ≡ sum_count sum + operands term
-  pub few : count ≤ 100
-
-abbrev pub Sound : ℕ → List ℕ → Progress → Type 0
-Sound index bytes (wants fresh left) = WantsSound index fresh left bytes
-Sound index bytes (in_digits digits left) = DigitsSound index digits left bytes
-Sound index bytes (has spaced sum term count) = HasSound index spaced sum term count bytes
-Sound index bytes failed = Unit {0}
+abbrev pub left_count : Left → ℕ
+left_count left = sum_count left.sum + product_count left.product
 
 -- a product with its operand
-pub times-good : (index : ℕ) (sum : Option (Tree × Mark)) (product : Option Tree) (e : Tree) (before own : List ℕ) → AllLeft index sum product before → Good index 8 e own
-    → (outer : List ℕ) × (inner : List ℕ) × SumLeft index sum outer × Good index 6 (times product e) inner × (before ++ own ≡ outer ++ inner) × (operands (times product e) ≡ product_count product + operands e)
-times-good index sum None e before own lefts good =
+times-good : (Operand : Tree → List ℕ → Type 0) (sum : Option (Tree × Mark)) (product : Option Tree) (e : Tree) (before own : List ℕ) → AllLeft Operand sum product before → Good Operand 8 e own
+    → (outer : List ℕ) × (inner : List ℕ) × SumLeft Operand sum outer × Good Operand 6 (times product e) inner × (before ++ own ≡ outer ++ inner) × (operands_in (times product e) ≡ product_count product + operands_in e)
+times-good Operand sum None e before own lefts good =
     (before, own, lefts, record { ranked = good.ranked; high = omega (arith, good.high); written = good.written }, refl, omega arith)
-times-good index sum (Some product) e before own lefts good =
+times-good Operand sum (Some product) e before own lefts good =
     let w = lefts.waits in (
       lefts.outer,
       w.first ++ (w.joint ++ own),
@@ -98,17 +99,12 @@ times-good index sum (Some product) e before own lefts good =
       refl,
     )
 
--- the ranks at `+` and `-`
-pub sum-ranks : (mark : Mark) → IsSum mark → (is_binary mark ≡ true) × (left_rank mark ≡ 5) × (right_rank mark ≡ 6) × (level mark ≡ 5)
-sum-ranks mark (inl is) = rw is (refl, refl, refl, refl)
-sum-ranks mark (inr is) = rw is (refl, refl, refl, refl)
-
 -- a sum with its term
-pub plus-good : (index : ℕ) (sum : Option (Tree × Mark)) (e : Tree) (before own : List ℕ) → SumLeft index sum before → Good index 6 e own
-    → Good index 5 (plus sum e) (before ++ own) × (operands (plus sum e) ≡ sum_count sum + operands e)
-plus-good index None e before own lefts good =
-    (record { ranked = good.ranked; high = omega (arith, good.high); written = subst (Writes index e) (ap (λ b. b ++ own) (sym lefts)) good.written }, omega arith)
-plus-good index (Some sum) e before own lefts good =
+plus-good : (Operand : Tree → List ℕ → Type 0) (sum : Option (Tree × Mark)) (e : Tree) (before own : List ℕ) → SumLeft Operand sum before → Good Operand 6 e own
+    → Good Operand 5 (plus sum e) (before ++ own) × (operands_in (plus sum e) ≡ sum_count sum + operands_in e)
+plus-good Operand None e before own lefts good =
+    (record { ranked = good.ranked; high = omega (arith, good.high); written = subst (Joined Operand e) (ap (λ b. b ++ own) (sym lefts)) good.written }, omega arith)
+plus-good Operand (Some sum) e before own lefts good =
     let w = lefts.0 in
     let ranks = sum-ranks sum.1 lefts.1 in (
       record {
@@ -119,208 +115,74 @@ plus-good index (Some sum) e before own lefts good =
       refl,
     )
 
--- an operator byte behind a term, with a blank before it or not, and with one behind it or not
-joint_of : (mark : Mark) (before after : Bool) (byte : ℕ) → operator byte ≡ Some mark → Joins mark (blank before ++ byte ∷ blank after)
-joint_of mark before after byte writes = record { before = before; byte = byte; after = after; writes = writes; is = refl }
+-- what stands to the left behind an operand and an operator of the form
+pub by-join : (left : Left) (e : Tree) (mark : Mark) → IsJoin mark
+    → (IsSum mark × (left_behind left e mark ≡ record { sum = Some (plus left.sum (times left.product e), mark); product = None }))
+    ⊎ ((mark ≡ Mark.Times) × (left_behind left e mark ≡ record { sum = left.sum; product = Some (times left.product e) }))
+by-join left e mark (inl is) = inl (inl is, rw is refl)
+by-join left e mark (inr (inl is)) = inl (inr is, rw is refl)
+by-join left e mark (inr (inr is)) = inr (is, rw is refl)
 
--- the bytes up to an operator
-to-operator : (before own : List ℕ) (spaced : Bool) (bytes more : List ℕ) → bytes ≡ before ++ (own ++ blank spaced) → bytes ++ more ≡ before ++ (own ++ (blank spaced ++ more))
-to-operator before own spaced bytes more is =
-    ap (λ b. b ++ more) is ∙ append_assoc before (own ++ blank spaced) more ∙ ap (λ b. before ++ b) (append_assoc own (blank spaced) more)
+abbrev Follows : (Tree → List ℕ → Type 0) → List ℕ → ℕ → Left → Type 0
+Follows Operand bytes count left = AllLeft Operand left.sum left.product bytes × (left_count left ≡ count)
 
-sum-waits : (index : ℕ) (spaced after : Bool) (sum : Option (Tree × Mark)) (term : Tree) (count byte : ℕ) (mark : Mark) (bytes : List ℕ) → IsSum mark → operator byte ≡ Some mark → HasSound index spaced sum term count bytes
-    → SumLeft index (Some (plus sum term, mark)) (bytes ++ byte ∷ blank after)
-sum-waits index spaced after sum term count byte mark bytes sums writes s = (
-  record {
-    first = s.before ++ s.own;
-    joint = blank spaced ++ byte ∷ blank after;
-    good = (plus-good index sum term s.before s.own s.sums s.good).0;
-    joins = joint_of mark spaced after byte writes;
-    is = to-operator s.before s.own spaced bytes (byte ∷ blank after) s.is ∙ sym (append_assoc s.before s.own (blank spaced ++ byte ∷ blank after));
-  },
-  sums,
-)
+-- What stands to the left behind one more operand and an operator.
+left-follows : (Operand : Tree → List ℕ → Type 0) (left : Left) (e : Tree) (mark : Mark) (before own joint : List ℕ) → IsJoin mark → AllLeft Operand left.sum left.product before → Good Operand 8 e own → Joins mark joint
+    → Follows Operand ((before ++ own) ++ joint) (left_count left + operands_in e) (left_behind left e mark)
+left-follows Operand left e mark before own joint join lefts good joins =
+    let term = times-good Operand left.sum left.product e before own lefts good in
+    let split : (before ++ own) ++ joint ≡ (term.0 ++ term.1) ++ joint = ap (λ b. b ++ joint) term.4 in
+    let whole = plus-good Operand left.sum (times left.product e) term.0 term.1 term.2 term.3 in
+    elim (by-join left e mark join) [
+      | inl adds ↦
+          subst (Follows Operand ((before ++ own) ++ joint) (left_count left + operands_in e)) (sym adds.1)
+          ((record { first = term.0 ++ term.1; joint = joint; good = whole.0; joins = joins; is = split }, adds.0), omega (arith, term.5, whole.1))
+      | inr multiplies ↦
+          let times_joins : Joins Mark.Times joint = subst (λ (m : Mark). Joins m joint) multiplies.0 joins in
+          subst (Follows Operand ((before ++ own) ++ joint) (left_count left + operands_in e)) (sym multiplies.1)
+          (record { outer = term.0; inner = term.1 ++ joint; sums = term.2; waits = record { first = term.1; joint = joint; good = term.3; joins = times_joins; is = refl }; is = split ∙ append_assoc term.0 term.1 joint }, omega (arith, term.5))
+    ]
 
-product-waits : (index : ℕ) (spaced after : Bool) (sum : Option (Tree × Mark)) (term : Tree) (count byte : ℕ) (bytes : List ℕ) → operator byte ≡ Some Mark.Times → HasSound index spaced sum term count bytes
-    → ProductLeft index sum term (bytes ++ byte ∷ blank after)
-product-waits index spaced after sum term count byte bytes writes s =
-    record {
-      outer = s.before;
-      inner = s.own ++ (blank spaced ++ byte ∷ blank after);
-      sums = s.sums;
-      waits = record { first = s.own; joint = blank spaced ++ byte ∷ blank after; good = s.good; joins = joint_of Mark.Times spaced after byte writes; is = refl };
-      is = to-operator s.before s.own spaced bytes (byte ∷ blank after) s.is;
-    }
+-- ---- whole values
 
--- a blank behind an operator byte
-one_blank : (bytes : List ℕ) (byte : ℕ) → (bytes ++ byte ∷ []) ++ 32 ∷ [] ≡ bytes ++ byte ∷ 32 ∷ []
-one_blank bytes byte = append_assoc bytes (byte ∷ []) (32 ∷ [])
+-- An operand that is read is written at the front of the text.
+abbrev pub IsSoundOperand : (Tree → List ℕ → Type 0) → (List ℕ → Option (Tree × List ℕ)) → Type 0
+IsSoundOperand Operand operand =
+    (text : List ℕ) (e : Tree) (rest : List ℕ) → operand text ≡ Some (e, rest) → (own : List ℕ) × Good Operand 8 e own × (operands_in e ≡ 1) × (text ≡ own ++ rest)
 
-operator-sound : (index : ℕ) (spaced : Bool) (sum : Option (Tree × Mark)) (term : Tree) (count byte : ℕ) (bytes : List ℕ) → HasSound index spaced sum term count bytes
-    → (mark : Mark) → IsJoin mark → operator byte ≡ Some mark → Sound index (bytes ++ byte ∷ []) (with_operator sum term count (Some mark))
-operator-sound index spaced sum term count byte bytes s mark (inl is) writes =
-    let sums : IsSum mark = inl is in
-    let counted = (plus-good index sum term s.before s.own s.sums s.good).1 in
-    let fresh : WantsSound index true (record { sum = Some (plus sum term, mark); product = None; count = count }) (bytes ++ byte ∷ []) = record {
-      here = sum-waits index spaced false sum term count byte mark bytes sums writes s;
-      spaced = λ _. subst (SumLeft index (Some (plus sum term, mark))) (sym (one_blank bytes byte)) (sum-waits index spaced true sum term count byte mark bytes sums writes s);
-      count = omega (arith, s.count_is, counted);
-      few = s.few;
-    } in
-    let same : wants true (record { sum = Some (plus sum term, mark); product = None; count = count }) ≡ with_operator sum term count (Some mark) = rw is refl in
-    subst (λ (p : Progress). Sound index (bytes ++ byte ∷ []) p) same fresh
-operator-sound index spaced sum term count byte bytes s mark (inr (inl is)) writes =
-    let sums : IsSum mark = inr is in
-    let counted = (plus-good index sum term s.before s.own s.sums s.good).1 in
-    let fresh : WantsSound index true (record { sum = Some (plus sum term, mark); product = None; count = count }) (bytes ++ byte ∷ []) = record {
-      here = sum-waits index spaced false sum term count byte mark bytes sums writes s;
-      spaced = λ _. subst (SumLeft index (Some (plus sum term, mark))) (sym (one_blank bytes byte)) (sum-waits index spaced true sum term count byte mark bytes sums writes s);
-      count = omega (arith, s.count_is, counted);
-      few = s.few;
-    } in
-    let same : wants true (record { sum = Some (plus sum term, mark); product = None; count = count }) ≡ with_operator sum term count (Some mark) = rw is refl in
-    subst (λ (p : Progress). Sound index (bytes ++ byte ∷ []) p) same fresh
-operator-sound index spaced sum term count byte bytes s mark (inr (inr is)) writes =
-    let writes_times : operator byte ≡ Some Mark.Times = writes ∙ ap (λ (m : Mark). Some m) is in
-    let fresh : WantsSound index true (record { sum = sum; product = Some term; count = count }) (bytes ++ byte ∷ []) = record {
-      here = product-waits index spaced false sum term count byte bytes writes_times s;
-      spaced = λ _. subst (ProductLeft index sum term) (sym (one_blank bytes byte)) (product-waits index spaced true sum term count byte bytes writes_times s);
-      count = s.count_is;
-      few = s.few;
-    } in
-    let same : wants true (record { sum = sum; product = Some term; count = count }) ≡ with_operator sum term count (Some mark) = rw is refl in
-    subst (λ (p : Progress). Sound index (bytes ++ byte ∷ []) p) same fresh
+abbrev IsSoundFrom : (Tree → List ℕ → Type 0) → ℕ → (Left → List ℕ → Option Tree) → Type 0
+IsSoundFrom Operand n next =
+    (left : Left) (before text : List ℕ) (e : Tree) → AllLeft Operand left.sum left.product before → next left text ≡ Some e → Good Operand 5 e (before ++ text) × (operands_in e ≤ left_count left + n)
 
--- a byte behind a term
-has-step : (index : ℕ) (spaced : Bool) (sum : Option (Tree × Mark)) (term : Tree) (count byte : ℕ) (bytes : List ℕ) → HasSound index spaced sum term count bytes → Sound index (bytes ++ byte ∷ []) (step_has spaced sum term count byte)
-unfolding step_has
-has-step index spaced sum term count byte bytes s = by_blank spaced s (eqb byte 32) refl
-  where
-    by_operator : (spaced : Bool) → HasSound index spaced sum term count bytes → (o : Option Mark) → operator byte ≡ o → Sound index (bytes ++ byte ∷ []) (with_operator sum term count o)
-    by_operator spaced s None e = tt
-    by_operator spaced s (Some mark) e = operator-sound index spaced sum term count byte bytes s mark (operator-join byte mark e) e
+read_on-sound : (Operand : Tree → List ℕ → Type 0) (n : ℕ) (left : Left) (before text : List ℕ) (e : Tree) → AllLeft Operand left.sum left.product before → (o : Tree) (rest : List ℕ)
+    → (next : Left → List ℕ → Option Tree) → IsSoundFrom Operand n next → (own : List ℕ) × Good Operand 8 o own × (operands_in o ≡ 1) × (text ≡ own ++ rest) → read_on next left o rest ≡ Some e
+    → Good Operand 5 e (before ++ text) × (operands_in e ≤ left_count left + suc n)
+unfolding ended_with
+read_on-sound Operand n left before text e lefts o [] next sound own on =
+    let term = times-good Operand left.sum left.product o before own.0 lefts own.1 in
+    let whole = plus-good Operand left.sum (times left.product o) term.0 term.1 term.2 term.3 in
+    let is : plus left.sum (times left.product o) ≡ e = same_Some _ _ on in
+    let bytes : term.0 ++ term.1 ≡ before ++ text = sym term.4 ∙ ap (λ b. before ++ b) (sym (append-nil own.0) ∙ sym own.3) in
+    let count = ap operands_in is in
+    (subst (λ b. Good Operand 5 e b) bytes (subst (λ (t : Tree). Good Operand 5 t (term.0 ++ term.1)) is whole.0), omega (arith, count, whole.1, term.5, own.2))
+read_on-sound Operand n left before text e lefts o (c ∷ rest) next sound own on =
+    option_and_then_some (λ (joint : Mark × List ℕ). next (left_behind left o joint.0) joint.1) (joint_in (c ∷ rest)) e on (λ (found : Mark × List ℕ) is more.
+    let joint = joint-spelled (c ∷ rest) found.0 found.1 is in
+    let follows = left-follows Operand left o found.0 before own.0 joint.0 joint.2 lefts own.1 joint.1 in
+    let whole = sound (left_behind left o found.0) ((before ++ own.0) ++ joint.0) found.1 e follows.0 more in
+    let bytes : ((before ++ own.0) ++ joint.0) ++ found.1 ≡ before ++ text =
+    append_assoc (before ++ own.0) joint.0 found.1 ∙ append_assoc before own.0 (joint.0 ++ found.1) ∙ ap (λ b. before ++ (own.0 ++ b)) (sym joint.3) ∙ ap (λ b. before ++ b) (sym own.3) in
+    (subst (Good Operand 5 e) bytes whole.0, omega (arith, whole.1, follows.1, own.2)))
 
-    by_blank : (spaced : Bool) → HasSound index spaced sum term count bytes → (b : Bool) → eqb byte 32 ≡ b
-        → Sound index (bytes ++ byte ∷ []) (cond b (cond spaced failed (has true sum term count)) (with_operator sum term count (operator byte)))
-    by_blank true s true e = tt
-    by_blank false s true e =
-        record {
-          before = s.before;
-          own = s.own;
-          sums = s.sums;
-          good = s.good;
-          is = ap (λ c. bytes ++ c ∷ []) (eqb-true byte 32 e) ∙ to-operator s.before s.own false bytes (32 ∷ []) s.is;
-          count_is = s.count_is;
-          few = s.few;
-        }
-    by_blank spaced s false e = by_operator spaced s (operator byte) refl
+read-sound : (Operand : Tree → List ℕ → Type 0) (operand : List ℕ → Option (Tree × List ℕ)) → IsSoundOperand Operand operand
+    → (n : ℕ) (left : Left) (before text : List ℕ) (e : Tree) → AllLeft Operand left.sum left.product before → read operand n left text ≡ Some e → Good Operand 5 e (before ++ text) × (operands_in e ≤ left_count left + n)
+read-sound Operand operand sound zero left before text e lefts found = absurd (none-some _ found)
+read-sound Operand operand sound (suc n) left before text e lefts found =
+    option_and_then_some (λ (f : Tree × List ℕ). read_on (λ more rest. read operand n more rest) left f.0 f.1) (operand text) e found
+    (λ (f : Tree × List ℕ) one on. read_on-sound Operand n left before text e lefts f.0 f.1 (λ more. read operand n more) (read-sound Operand operand sound n) (sound text f.0 f.1 one) on)
 
--- the end of a number, as a term
-digits-has : (index : ℕ) (digits : List ℕ) (left : Left) (bytes : List ℕ) → DigitsSound index digits left bytes → HasSound index false left.sum (times left.product (of_number digits)) left.count bytes
-digits-has index digits left bytes s =
-    let leaf : Good index 8 (of_number digits) digits = record { ranked = tt; high = omega arith; written = (refl, s.literal, refl) } in
-    let term = times-good index left.sum left.product (of_number digits) s.before digits s.lefts leaf in
-    record {
-      before = term.0;
-      own = term.1;
-      sums = term.2;
-      good = term.3;
-      is = s.is ∙ term.4 ∙ ap (λ b. term.0 ++ b) (sym (append-nil term.1));
-      count_is = omega (arith, s.count, term.5);
-      few = s.few;
-    }
-
-literal-more : (digits : List ℕ) (byte : ℕ) → is_literal digits ≡ true → is_digit byte ≡ true → length digits < 9 → is_literal (digits ++ byte ∷ []) ≡ true
-literal-more digits byte literal digit room =
-    let sized = and_parts (leb 1 (length digits) && leb (length digits) 9) (list_all is_digit digits) literal in
-    let longer : length (digits ++ byte ∷ []) ≡ length digits + 1 = length-append digits (byte ∷ []) in
-    let all : list_all is_digit (digits ++ byte ∷ []) ≡ true = list_all-append is_digit digits (byte ∷ []) ∙ (rw (sized.1, digit) refl) in
-    rw (le-leb 1 (length (digits ++ byte ∷ [])) (omega arith), le-leb (length (digits ++ byte ∷ [])) 9 (omega arith), all) refl
-
-digits-step : (index : ℕ) (digits : List ℕ) (left : Left) (byte : ℕ) (bytes : List ℕ) → DigitsSound index digits left bytes → Sound index (bytes ++ byte ∷ []) (step_digits digits left byte)
-unfolding step_digits
-digits-step index digits left byte bytes s = by_digit (is_digit byte) refl (leb (suc (length digits)) 9) refl
-  where
-    by_digit : (d : Bool) → is_digit byte ≡ d → (room : Bool) → leb (suc (length digits)) 9 ≡ room
-        → Sound index (bytes ++ byte ∷ []) (cond d (cond room (in_digits (digits ++ byte ∷ []) left) failed) (step_has false left.sum (times left.product (of_number digits)) left.count byte))
-    by_digit true ed true er =
-        record {
-          before = s.before;
-          lefts = s.lefts;
-          literal = literal-more digits byte s.literal ed (leb-true (suc (length digits)) 9 er);
-          is = ap (λ b. b ++ byte ∷ []) s.is ∙ append_assoc s.before digits (byte ∷ []);
-          count = s.count;
-          few = s.few;
-        }
-    by_digit true ed false er = tt
-    by_digit false ed room er = has-step index false left.sum (times left.product (of_number digits)) left.count byte bytes (digits-has index digits left bytes s)
-
-operand-step : (index : ℕ) (fresh : Bool) (left : Left) (byte : ℕ) (bytes : List ℕ) → WantsSound index fresh left bytes → Sound index (bytes ++ byte ∷ []) (step_operand index left byte)
-unfolding step_operand
-operand-step index fresh left byte bytes s = by_tests (leb (suc left.count) 100) refl (is_digit byte) refl (eqb byte index) refl
-  where
-    by_tests : (room : Bool) → leb (suc left.count) 100 ≡ room → (d : Bool) → is_digit byte ≡ d → (own : Bool) → eqb byte index ≡ own
-        → Sound index (bytes ++ byte ∷ []) (cond room (cond d (in_digits (byte ∷ []) (one_more left)) (cond own (with_operand (one_more left) (name (index ∷ []))) failed)) failed)
-    by_tests false er d ed own eo = tt
-    by_tests true er true ed own eo =
-        let few : suc left.count ≤ 100 = leb-true (suc left.count) 100 er in
-        record { before = bytes; lefts = s.here; literal = rw ed refl; is = refl; count = omega (arith, s.count); few = omega arith }
-    by_tests true er false ed true eo =
-        let few : suc left.count ≤ 100 = leb-true (suc left.count) 100 er in
-        let leaf : Good index 8 (name (index ∷ [])) (byte ∷ []) = record { ranked = letter-is_name index; high = omega arith; written = (refl, ap (λ c. c ∷ []) (eqb-true byte index eo)) } in
-        let term = times-good index left.sum left.product (name (index ∷ [])) bytes (byte ∷ []) s.here leaf in
-        record {
-          before = term.0;
-          own = term.1;
-          sums = term.2;
-          good = term.3;
-          is = term.4 ∙ ap (λ b. term.0 ++ b) (sym (append-nil term.1));
-          count_is = omega (arith, s.count, term.5);
-          few = omega arith;
-        }
-    by_tests true er false ed false eo = tt
-
-wants-step : (index : ℕ) (fresh : Bool) (left : Left) (byte : ℕ) (bytes : List ℕ) → WantsSound index fresh left bytes → Sound index (bytes ++ byte ∷ []) (step index (wants fresh left) byte)
-wants-step index false left byte bytes s = operand-step index false left byte bytes s
-wants-step index true left byte bytes s = by_blank (eqb byte 32) refl
-  where
-    by_blank : (b : Bool) → eqb byte 32 ≡ b → Sound index (bytes ++ byte ∷ []) (cond b (wants false left) (step_operand index left byte))
-    by_blank true e =
-        record {
-          here = subst (λ (c : ℕ). AllLeft index left.sum left.product (bytes ++ c ∷ [])) (sym (eqb-true byte 32 e)) (s.spaced refl);
-          spaced = λ h. absurd (false≢true h);
-          count = s.count;
-          few = s.few;
-        }
-    by_blank false e = operand-step index true left byte bytes s
-
-step-sound : (index : ℕ) (p : Progress) (byte : ℕ) (bytes : List ℕ) → Sound index bytes p → Sound index (bytes ++ byte ∷ []) (step index p byte)
-step-sound index (wants fresh left) byte bytes s = wants-step index fresh left byte bytes s
-step-sound index (in_digits digits left) byte bytes s = digits-step index digits left byte bytes s
-step-sound index (has spaced sum term count) byte bytes s = has-step index spaced sum term count byte bytes s
-step-sound index failed byte bytes s = tt
-
-run-sound : (index : ℕ) (more bytes : List ℕ) (p : Progress) → Sound index bytes p → Sound index (bytes ++ more) (run index more p)
-run-sound index [] bytes p s = subst (λ b. Sound index b p) (sym (append-nil bytes)) s
-run-sound index (byte ∷ more) bytes p s =
-    subst (λ b. Sound index b (run index more (step index p byte))) (append_assoc bytes (byte ∷ []) more) (run-sound index more (bytes ++ byte ∷ []) (step index p byte) (step-sound index p byte bytes s))
-
-has-spells : (index : ℕ) (sum : Option (Tree × Mark)) (term : Tree) (count : ℕ) (bytes : List ℕ) → HasSound index false sum term count bytes → SpellsTree index bytes (plus sum term)
-has-spells index sum term count bytes s =
-    let whole = plus-good index sum term s.before s.own s.sums s.good in
-    let is : bytes ≡ s.before ++ s.own = s.is ∙ ap (λ b. s.before ++ b) (append-nil s.own) in
-    record { ranked = whole.0.ranked; written = subst (Writes index (plus sum term)) (sym is) whole.0.written; few = omega (arith, s.few, s.count_is, whole.1) }
-
-finish-sound : (index : ℕ) (p : Progress) (bytes : List ℕ) (e : Tree) → Sound index bytes p → finish p ≡ Some e → SpellsTree index bytes e
-finish-sound index (wants fresh left) bytes e s found = absurd (none-some _ found)
-finish-sound index (in_digits digits left) bytes e s found =
-    subst (SpellsTree index bytes) (same_Some _ _ found) (has-spells index left.sum (times left.product (of_number digits)) left.count bytes (digits-has index digits left bytes s))
-finish-sound index (has true sum term count) bytes e s found = absurd (none-some _ found)
-finish-sound index (has false sum term count) bytes e s found = subst (SpellsTree index bytes) (same_Some _ _ found) (has-spells index sum term count bytes s)
-finish-sound index failed bytes e s found = absurd (none-some _ found)
-
--- The tree that the reader finds is spelled by the bytes.
-pub tree-spelled : (index : ℕ) (bytes : List ℕ) (e : Tree) → tree_in index bytes ≡ Some e → SpellsTree index bytes e
-tree-spelled index bytes e found =
-    finish-sound index (run index bytes start) bytes e
-    (run-sound index bytes [] start (record { here = refl; spaced = λ h. absurd (false≢true h); count = refl; few = omega arith })) found
+-- The tree that is read of a whole text is spelled by it.
+pub value-spelled : (Operand : Tree → List ℕ → Type 0) (operand : List ℕ → Option (Tree × List ℕ)) → IsSoundOperand Operand operand → (text : List ℕ) (e : Tree) → read operand 100 nothing_left text ≡ Some e → SpellsWith Operand text e
+value-spelled Operand operand sound text e found =
+    let whole = read-sound Operand operand sound 100 nothing_left [] text e refl found in
+    record { ranked = whole.0.ranked; written = whole.0.written; few = whole.1 }

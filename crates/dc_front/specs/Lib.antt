@@ -1,11 +1,8 @@
-pub mod FirstForm
-pub mod Picking
-pub mod ProgressViews
+pub mod Bytes
+pub mod Form
+pub mod Pieces
 pub mod Reading
-pub mod SecondForm
-pub mod SecondReading
-pub mod SecondValue
-pub mod SecondValueReading
-pub mod SecondViews
+pub mod Scanning
 pub mod Value
 pub mod ValueReading
+pub mod Views

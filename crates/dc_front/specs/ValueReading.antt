@@ -1,25 +1,16 @@
--- How a value is read, a byte at a time: the functions of the reader, as equations.
-use Rattle.std.specs.Prelude.{◌+◌, ℕ, Bool, true, false, ◌&&◌, ◌==◌, nat_lt, List, [], ◌∷◌, ◌++◌, length, Option, Some, None, if◌then◌else◌}
+-- How a value is read, an operand at a time: the functions of the reader, as equations.
+use Rattle.std.specs.Prelude.{ℕ, zero, suc, Bool, true, false, not, ◌&&◌, ◌==◌, nat_le, List, [], ◌∷◌, length, take, drop, Option, Some, None, option_map, if◌then◌else◌}
 use Rattle.dc_tree.specs.declared.token.Mark.{Mark}
 use Rattle.dc_tree.specs.declared.token.Suffix.{Suffix}
-use Rattle.dc_tree.specs.Syntax.{Tree, number, name, binary}
-use Rattle.dc_front.specs.Value.{is_digit, operator}
+use Rattle.dc_tree.specs.declared.expr.Expr.{Expr}
+use Rattle.dc_tree.specs.Back.{back}
+use Rattle.dc_tree.specs.Syntax.{Tree, number, name, refer, binary, no_args, arg}
+use Rattle.dc_front.specs.Bytes.{is_digit}
+use Rattle.dc_front.specs.Value.{operator, is_scalar, is_array}
+use Rattle.dc_front.specs.Scanning.{◌>>=◌, after, span}
+use Rattle.dc_front.specs.declared.parts.Variable.{Variable}
 
--- What stands to the left of the operand that comes: a sum with its operator, a product that
--- is to be multiplied, and how many operands there were.
-pub record Left : Type 0 where
-  pub sum : Option (Tree × Mark)
-  pub product : Option Tree
-  pub count : ℕ
-
--- Where the reader stands: it wants an operand, with one blank first if it is fresh from an operator;
--- it is in a number; it has an operand, perhaps with a blank behind it; or no value is spelled.
-pub data Progress : Type 0 where
-  wants : Bool → Left → Progress
-  in_digits : List ℕ → Left → Progress
-  has : Bool → Option (Tree × Mark) → Tree → ℕ → Progress
-  failed : Progress
-
+-- a product and a sum with one operand more
 abbrev pub times : Option Tree → Tree → Tree
 times None e = e
 times (Some product) e = binary Mark.Times product e
@@ -28,57 +19,113 @@ abbrev pub plus : Option (Tree × Mark) → Tree → Tree
 plus None e = e
 plus (Some sum) e = binary sum.1 sum.0 e
 
--- the operand stands behind what stands to its left
-abbrev pub with_operand : Left → Tree → Progress
-with_operand left e = has false left.sum (times left.product e) left.count
-
--- an operator stands behind a term
-abbrev pub with_operator : Option (Tree × Mark) → Tree → ℕ → Option Mark → Progress
-with_operator sum term count None = failed
-with_operator sum term count (Some Mark.Times) = wants true (record { sum = sum; product = Some term; count = count })
-with_operator sum term count (Some mark) = wants true (record { sum = Some (plus sum term, mark); product = None; count = count })
-
-abbrev pub one_more : Left → Left
-one_more left = record { sum = left.sum; product = left.product; count = left.count + 1 }
-
-unfoldable pub step_operand : ℕ → Left → ℕ → Progress
-step_operand index left byte =
-    if nat_lt left.count 100
-    then (if is_digit byte then in_digits (byte ∷ []) (one_more left) else (if byte == index then with_operand (one_more left) (name (index ∷ [])) else failed))
-    else failed
-
-unfoldable pub step_has : Bool → Option (Tree × Mark) → Tree → ℕ → ℕ → Progress
-step_has spaced sum term count byte =
-    if byte == 32 then (if spaced then failed else has true sum term count) else with_operator sum term count (operator byte)
-
 abbrev pub of_number : List ℕ → Tree
 of_number digits = number digits Suffix.Absent
 
-unfoldable pub step_digits : List ℕ → Left → ℕ → Progress
-step_digits digits left byte =
-    if is_digit byte
-    then (if nat_lt (length digits) 9 then in_digits (digits ++ byte ∷ []) left else failed)
-    else step_has false left.sum (times left.product (of_number digits)) left.count byte
+-- the digits at the front of a text, and what follows them
+abbrev pub digits_in : List ℕ → List ℕ
+digits_in text = take (span is_digit text) text
 
-abbrev pub step : ℕ → Progress → ℕ → Progress
-step index (wants fresh left) byte = if fresh && byte == 32 then wants false left else step_operand index left byte
-step index (in_digits digits left) byte = step_digits digits left byte
-step index (has spaced sum term count) byte = step_has spaced sum term count byte
-step index failed byte = failed
+abbrev pub past_digits : List ℕ → List ℕ
+past_digits text = drop (length (digits_in text)) text
 
-abbrev pub run : ℕ → List ℕ → Progress → Progress
-run index [] progress = progress
-run index (byte ∷ bytes) progress = run index bytes (step index progress byte)
+-- the bytes up to a closing bracket
+abbrev pub is_inside : ℕ → Bool
+is_inside c = not (c == 41)
 
--- the tree that was read where the bytes end
-abbrev pub finish : Progress → Option Tree
-finish (wants fresh left) = None
-finish (in_digits digits left) = Some (plus left.sum (times left.product (of_number digits)))
-finish (has spaced sum term count) = if spaced then None else Some (plus sum term)
-finish failed = None
+abbrev pub inside_in : List ℕ → List ℕ
+inside_in text = take (span is_inside text) text
 
-abbrev pub start : Progress
-start = wants false (record { sum = None; product = None; count = 0 })
+abbrev pub past_inside : List ℕ → List ℕ
+past_inside text = drop (length (inside_in text)) text
 
-abbrev pub tree_in : ℕ → List ℕ → Option Tree
-tree_in index bytes = finish (run index bytes start)
+-- a text without one blank at its front
+abbrev pub past_blank : List ℕ → List ℕ
+past_blank [] = []
+past_blank (c ∷ text) = if c == 32 then text else c ∷ text
+
+abbrev pub mark_in : List ℕ → Option (Mark × List ℕ)
+mark_in [] = None
+mark_in (c ∷ text) = operator c >>= λ mark. Some (mark, past_blank text)
+
+-- an operator with its blanks, and what follows it
+unfoldable pub joint_in : List ℕ → Option (Mark × List ℕ)
+joint_in text = mark_in (past_blank text)
+
+-- What stands to the left of an operand: a sum with its operator, and a product that is to be multiplied.
+pub record Left : Type 0 where
+  pub sum : Option (Tree × Mark)
+  pub product : Option Tree
+
+abbrev pub nothing_left : Left
+nothing_left = record { sum = None; product = None }
+
+-- the value that ends with this operand
+unfoldable pub ended_with : Left → Tree → Tree
+ended_with left e = plus left.sum (times left.product e)
+
+-- what stands to the left behind an operand and an operator
+abbrev pub left_behind : Left → Tree → Mark → Left
+left_behind left e Mark.Times = record { sum = left.sum; product = Some (times left.product e) }
+left_behind left e mark = record { sum = Some (plus left.sum (times left.product e), mark); product = None }
+
+-- what follows an operand: nothing, or an operator and the next operand
+abbrev pub read_on : (Left → List ℕ → Option Tree) → Left → Tree → List ℕ → Option Tree
+read_on next left e [] = Some (ended_with left e)
+read_on next left e (c ∷ rest) = joint_in (c ∷ rest) >>= λ joint. next (left_behind left e joint.0) joint.1
+
+-- Up to so many operands, which are read in this way, with operators between them.
+abbrev pub read : (List ℕ → Option (Tree × List ℕ)) → ℕ → Left → List ℕ → Option Tree
+read operand zero left text = None
+read operand (suc n) left text = operand text >>= λ found. read_on (λ more rest. read operand n more rest) left found.0 found.1
+
+-- one to nine bytes
+abbrev pub is_short : List ℕ → Bool
+is_short digits = nat_le 1 (length digits) && nat_le (length digits) 9
+
+-- a number, and what follows it
+unfoldable pub number_in : List ℕ → Option (Tree × List ℕ)
+number_in text = if is_short (digits_in text) then Some (of_number (digits_in text), past_digits text) else None
+
+abbrev pub plain_in : List Variable → List ℕ → Option (Tree × List ℕ)
+plain_in variables [] = None
+plain_in variables (c ∷ text) = if is_scalar variables c then Some (name (c ∷ []), text) else number_in (c ∷ text)
+
+unfoldable pub subscript_in : List Variable → List ℕ → Option Tree
+subscript_in variables text = read (plain_in variables) 100 nothing_left text
+
+-- an element of the array with this letter, from its opening bracket on
+unfoldable pub element_in : List Variable → ℕ → List ℕ → Option (Tree × List ℕ)
+element_in variables letter text = do
+  inside ← after (40 ∷ []) text
+  rest ← after (41 ∷ []) (past_inside inside)
+  subscript ← subscript_in variables (inside_in inside)
+  if is_array variables letter then Some (refer (letter ∷ []) (arg false subscript no_args), rest) else None
+
+abbrev pub opens : List ℕ → Bool
+opens [] = false
+opens (c ∷ text) = c == 40
+
+-- an operand of a value
+abbrev pub operand_in : List Variable → List ℕ → Option (Tree × List ℕ)
+operand_in variables [] = None
+operand_in variables (c ∷ text) = if opens text then element_in variables c text else plain_in variables (c ∷ text)
+
+-- an operand, with elements of arrays or without
+abbrev pub operand_with : List Variable → Bool → List ℕ → Option (Tree × List ℕ)
+operand_with variables true = operand_in variables
+operand_with variables false = plain_in variables
+
+unfoldable pub value_in : List Variable → List ℕ → Option Tree
+value_in variables text = read (operand_in variables) 100 nothing_left text
+
+abbrev pub value_with : List Variable → Bool → List ℕ → Option Tree
+value_with variables true = value_in variables
+value_with variables false = subscript_in variables
+
+-- as the code's expressions: a subscript, and a value
+abbrev pub subscript_at : List Variable → List ℕ → Option Expr
+subscript_at variables text = option_map back (subscript_in variables text)
+
+abbrev pub value_at : List Variable → List ℕ → Option Expr
+value_at variables text = option_map back (value_in variables text)

@@ -2,14 +2,22 @@
 //! first rule that it breaks.
 #![tactic(auto)]
 
-mod form;
-mod lines;
-mod progress;
-mod reading;
-mod second;
+mod bytes;
+mod checks;
+mod law;
+mod operands;
+mod parts;
+mod pieces;
+mod scanning;
+mod sentences;
 mod source;
+mod steps;
+mod symbols;
 mod trees;
-mod value;
+mod values;
 
-pub use second::{AcceptedSecond, accept_second};
+pub use law::a_text_spells_one_program;
 pub use source::{Accepted, accept};
+
+#[cfg(test)]
+mod tests;

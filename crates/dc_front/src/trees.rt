@@ -1,12 +1,11 @@
-ghost use Rattle.std.specs.Prelude.{◌≡◌, ◌∷◌, [], IfOk, Some, None};
-ghost use Rattle.dc_tree.specs.declared.expr.Expr.{Name};
-ghost use Rattle.dc_tree.specs.declared.program.Node.{Plain};
-ghost use Rattle.dc_tree.specs.declared.stmt.Stmt.{Stmt};
-ghost use Rattle.dc_tree.specs.declared.stmt.Unit.{Unit as EndUnit};
-ghost use Rattle.dc_front.specs.FirstForm.{literal, entity, declaration, concurrent, assignment, print, filling_loop, program_of, at_line, block};
-ghost use Rattle.dc_front.specs.Picking.{form_of};
+//! The tree of a program.
 
-use crate::form::Picked;
+ghost use Rattle.std.specs.Prelude.{◌≡◌, ◌∷◌, [], IfOk, option_map, map, Some, None};
+ghost use Rattle.dc_front.specs.Pieces.{entity, literal};
+ghost use Rattle.dc_front.specs.Form.{assignment, printing, concurrent, loop_node, front, program_with};
+
+use crate::parts::{Assignment, Header, Variable};
+use crate::pieces::{at_line, literal, name, one, word};
 use dc_text::{DcList, DcText, NoMemory};
 use dc_tree::{
     Action, Block, Bound, Entity, Expr, Index, Init, Lined, Node, Program, Stmt, Suffix, Target,
@@ -14,92 +13,57 @@ use dc_tree::{
 };
 use std::alloc::Global;
 
-pub(crate) fn one<T: Drop>(alloc: Global, item: T) -> Result<DcList<T>, NoMemory>
-    ensures { IfOk result (λ list. list ≡ item ∷ []) }
+fn subscripts(alloc: Global, subscript: Option<Expr>) -> Result<Option<DcList<Expr>>, NoMemory>
+    ensures { IfOk result (λ list. list ≡ option_map (λ s. s ∷ []) subscript) }
 {
-    let mut list = DcList::new(alloc);
-    list.push(item)?;
-    Ok(list)
+    match subscript {
+        None => Ok(None),
+        Some(subscript) => Ok(Some(one(alloc, subscript)?)),
+    }
 }
 
-fn two<T: Drop>(alloc: Global, first: T, second: T) -> Result<DcList<T>, NoMemory>
-    ensures { IfOk result (λ list. list ≡ first ∷ second ∷ []) }
+pub(crate) fn assignment(alloc: Global, assigned: Assignment) -> Result<Stmt, NoMemory>
+    ensures { IfOk result (λ stmt. stmt ≡ assignment assigned) }
 {
-    let mut list = DcList::new(alloc);
-    list.push(first)?;
-    list.push(second)?;
-    Ok(list)
+    let Assignment {
+        letter,
+        subscript,
+        value,
+    } = assigned;
+    let left = Target {
+        name: word(alloc, letter)?,
+        subscripts: subscripts(alloc, subscript)?,
+    };
+    Ok(Stmt::Act(Action::Assign { left, right: value }))
 }
 
-pub(crate) fn word(alloc: Global, letter: u8) -> Result<DcText, NoMemory>
-    ensures { IfOk result (λ text. text ≡ letter ∷ []) }
+pub(crate) fn printing(alloc: Global, letter: u8) -> Result<Stmt, NoMemory>
+    ensures { IfOk result (λ stmt. stmt ≡ printing letter) }
 {
-    let mut text = DcText::new(alloc);
-    text.push(letter)?;
-    Ok(text)
+    let variable = name(alloc, letter)?;
+    Ok(Stmt::Act(Action::Print {
+        written: false,
+        items: one(alloc, variable)?,
+    }))
 }
 
-pub(crate) fn name(alloc: Global, letter: u8) -> Result<Expr, NoMemory>
-    ensures { IfOk result (λ e. e ≡ Name (letter ∷ [])) }
+fn limit(digits: DcText) -> Expr
+    ensures { result ≡ literal digits }
 {
-    Ok(Expr::Name(word(alloc, letter)?))
-}
-
-pub(crate) fn literal(alloc: Global, digits: &[u8]) -> Result<Expr, NoMemory>
-    ensures { IfOk result (λ e. e ≡ literal digits.now) }
-{
-    let digits = DcText::from_bytes(alloc, digits)?;
-    Ok(Expr::Number {
+    Expr::Number {
         digits,
         suffix: Suffix::Absent,
-    })
+    }
 }
 
-pub(crate) fn array(alloc: Global, letter: u8, size: &[u8]) -> Result<Entity, NoMemory>
-    ensures { IfOk result (λ e. e ≡ entity letter (Some size.now)) }
+fn concurrent(alloc: Global, header: Header) -> Result<Stmt, NoMemory>
+    ensures { IfOk result (λ stmt. stmt ≡ concurrent header) }
 {
-    let high = literal(alloc, size)?;
-    let bounds = one(alloc, Bound { low: None, high })?;
-    Ok(Entity {
-        name: word(alloc, letter)?,
-        bounds: Some(bounds),
-        init: Init::Absent,
-    })
-}
-
-pub(crate) fn scalar(alloc: Global, letter: u8) -> Result<Entity, NoMemory>
-    ensures { IfOk result (λ e. e ≡ entity letter None) }
-{
-    Ok(Entity {
-        name: word(alloc, letter)?,
-        bounds: None,
-        init: Init::Absent,
-    })
-}
-
-fn declaration(alloc: Global, form: &Picked) -> Result<Stmt, NoMemory>
-    ensures { IfOk result (λ stmt. stmt ≡ declaration (form_of form.now)) }
-{
-    let array = array(alloc, form.array, form.size)?;
-    let index = scalar(alloc, form.index)?;
-    Ok(Stmt::Declare {
-        spec: TypeSpec::Integer {
-            keyed: false,
-            selector: None,
-        },
-        attrs: DcList::new(alloc),
-        colons: true,
-        entities: two(alloc, array, index)?,
-    })
-}
-
-fn concurrent(alloc: Global, form: &Picked) -> Result<Stmt, NoMemory>
-    ensures { IfOk result (λ stmt. stmt ≡ concurrent (form_of form.now)) }
-{
+    let Header { index, first, last } = header;
     let index = Index {
-        name: word(alloc, form.index)?,
-        first: literal(alloc, b"1")?,
-        last: literal(alloc, form.size)?,
+        name: word(alloc, index)?,
+        first: limit(first),
+        last: limit(last),
         step: None,
     };
     Ok(Stmt::Concurrent {
@@ -111,72 +75,103 @@ fn concurrent(alloc: Global, form: &Picked) -> Result<Stmt, NoMemory>
     })
 }
 
-fn assignment(alloc: Global, form: &Picked, value: Expr) -> Result<Stmt, NoMemory>
-    ensures { IfOk result (λ stmt. stmt ≡ assignment (form_of form.now) value) }
+/// The loop of a header over these nodes, which ends on the line `close`.
+pub(crate) fn looping(
+    alloc: Global,
+    line: u32,
+    header: Header,
+    nodes: DcList<Node>,
+    close: u32,
+) -> Result<Node, NoMemory>
+    ensures { IfOk result (λ node. node ≡ loop_node line header nodes close) }
 {
-    let index = name(alloc, form.index)?;
-    let subscripts = one(alloc, index)?;
-    let left = Target {
-        name: word(alloc, form.array)?,
-        subscripts: Some(subscripts),
-    };
-    Ok(Stmt::Act(Action::Assign { left, right: value }))
-}
-
-fn print(alloc: Global, form: &Picked) -> Result<Stmt, NoMemory>
-    ensures { IfOk result (λ stmt. stmt ≡ print (form_of form.now)) }
-{
-    let array = name(alloc, form.array)?;
-    Ok(Stmt::Act(Action::Print {
-        written: false,
-        items: one(alloc, array)?,
-    }))
-}
-
-fn end(alloc: Global, form: &Picked) -> Result<Stmt, NoMemory>
-    ensures { IfOk result (λ stmt. stmt ≡ Stmt.End (Some EndUnit.Program) (Some (form.now.title ∷ []))) }
-{
-    let title = word(alloc, form.title)?;
-    Ok(Stmt::End {
-        unit: Some(Unit::Program),
-        name: Some(title),
-    })
-}
-
-fn filling_loop(alloc: Global, form: &Picked, value: Expr) -> Result<Node, NoMemory>
-    ensures { IfOk result (λ node. node ≡ filling_loop (form_of form.now) value) }
-{
-    let assignment = assignment(alloc, form, value)?;
-    let nodes = one(alloc, Node::Plain(at_line(4, assignment)))?;
     Ok(Node::Loop {
-        head: at_line(3, concurrent(alloc, form)?),
+        head: at_line(line, concurrent(alloc, header)?),
         body: Block { nodes },
-        close: at_line(5, Stmt::EndDo(None)),
+        close: at_line(close, Stmt::EndDo(None)),
     })
 }
 
-pub(crate) fn at_line(line: u32, stmt: Stmt) -> Lined
-    ensures { result ≡ at_line line stmt }
+fn array(alloc: Global, letter: u8, size: &[u8]) -> Result<Entity, NoMemory>
+    ensures { IfOk result (λ e. e ≡ entity letter (Some size.now)) }
 {
-    Lined { line, stmt }
+    let high = literal(alloc, size)?;
+    let bounds = one(alloc, Bound { low: None, high })?;
+    Ok(Entity {
+        name: word(alloc, letter)?,
+        bounds: Some(bounds),
+        init: Init::Absent,
+    })
 }
 
-/// The tree of the form with this assigned value.
-pub(crate) fn program(alloc: Global, form: &Picked, value: Expr) -> Result<Program, NoMemory>
-    ensures { IfOk result (λ program. program ≡ program_of (form_of form.now) value) }
+fn scalar(alloc: Global, letter: u8) -> Result<Entity, NoMemory>
+    ensures { IfOk result (λ e. e ≡ entity letter None) }
 {
-    let filling = filling_loop(alloc, form, value)?;
-    let printing = Node::Plain(at_line(6, print(alloc, form)?));
-    let title = word(alloc, form.title)?;
-    let declaration = declaration(alloc, form)?;
-    Ok(Program {
-        head: at_line(1, Stmt::Program(title)),
-        front: one(alloc, at_line(2, declaration))?,
-        body: Block {
-            nodes: two(alloc, filling, printing)?,
+    Ok(Entity {
+        name: word(alloc, letter)?,
+        bounds: None,
+        init: Init::Absent,
+    })
+}
+
+fn entity(alloc: Global, variable: &Variable) -> Result<Entity, NoMemory>
+    ensures { IfOk result (λ e. e ≡ entity variable.now.letter variable.now.size) }
+{
+    match &variable.size {
+        None => scalar(alloc, variable.letter),
+        Some(size) => array(alloc, variable.letter, size.as_bytes()),
+    }
+}
+
+fn entities(alloc: Global, variables: &[Variable]) -> Result<DcList<Entity>, NoMemory>
+    ensures { IfOk result (λ list. list ≡ map (λ v. entity v.letter v.size) variables.now) }
+{
+    let mut list = DcList::new(alloc);
+    for variable in variables {
+        list.push(entity(alloc, variable)?)?;
+    }
+    Ok(list)
+}
+
+fn front(alloc: Global, variables: &[Variable]) -> Result<DcList<Lined>, NoMemory>
+    ensures { IfOk result (λ lines. lines ≡ front variables.now) }
+{
+    if variables.is_empty() {
+        return Ok(DcList::new(alloc));
+    }
+    let declaration = Stmt::Declare {
+        spec: TypeSpec::Integer {
+            keyed: false,
+            selector: None,
         },
+        attrs: DcList::new(alloc),
+        colons: true,
+        entities: entities(alloc, variables)?,
+    };
+    one(alloc, at_line(2, declaration))
+}
+
+/// The program of this name, whose last line has this number.
+pub(crate) fn program(
+    alloc: Global,
+    title: u8,
+    variables: &[Variable],
+    nodes: DcList<Node>,
+    last: u32,
+) -> Result<Program, NoMemory>
+    ensures { IfOk result (λ program. program ≡ program_with title variables.now nodes last) }
+{
+    let name = word(alloc, title)?;
+    let end = Stmt::End {
+        unit: Some(Unit::Program),
+        name: Some(word(alloc, title)?),
+    };
+    Ok(Program {
+        head: at_line(1, Stmt::Program(name)),
+        front: front(alloc, variables)?,
+        body: Block { nodes },
         contains: None,
         procedures: DcList::new(alloc),
-        close: at_line(7, end(alloc, form)?),
+        close: at_line(last, end),
     })
 }

@@ -5,12 +5,13 @@ mod ending;
 mod law;
 mod report;
 mod running;
+mod whole;
 mod writing;
 
 pub use ending::Ending;
 pub use law::subscripts_lead_back;
-pub use report::ending_line;
-pub use running::{RunOut, run_program};
+pub use running::RunOut;
+pub use whole::{report_line, run};
 
 #[cfg(test)]
 mod tests;

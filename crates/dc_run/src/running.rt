@@ -231,6 +231,7 @@ fn run_body(
     alloc: Global,
     program: &Program,
     symbols: &Symbols,
+    _turns: u64,
     standing: &mut Standing,
 ) -> Result<Ending, NoMemory>
     ghost forms: { Forms }
@@ -244,9 +245,13 @@ fn run_body(
     run_nodes(alloc, symbols, program.body.nodes.as_slice(), standing)
 }
 
-/// Runs a main program: what it writes, and how it ends.
-pub fn run_program(alloc: Global, program: &Program, symbols: &Symbols) -> Result<RunOut, NoMemory>
-    ghost turns: { ℕ }
+/// Runs a main program with so many turns: what it writes, and how it ends. No program of today spends one.
+pub(crate) fn run_program(
+    alloc: Global,
+    program: &Program,
+    symbols: &Symbols,
+    turns: u64,
+) -> Result<RunOut, NoMemory>
     requires { IsTrue (is_small_program symbols.now (source_of program.now)) }
     ensures is { IfOk result (λ out. (given : List ℕ) → IsRunOf symbols.now (source_of program.now) turns given out) }
     ensures owns { IfOk result (λ out. NamesOwn symbols.now out.ending) }
@@ -258,7 +263,7 @@ pub fn run_program(alloc: Global, program: &Program, symbols: &Symbols) -> Resul
         output,
         loops: 0,
     };
-    let ending = run_body(alloc, program, symbols, &mut standing)?;
+    let ending = run_body(alloc, program, symbols, turns, &mut standing)?;
     Ok(RunOut {
         output: standing.output,
         ending,

@@ -2,7 +2,9 @@ ghost use Rattle.std.specs.Prelude.{◌≡◌, IfOk};
 ghost use Rattle.dc_tree.specs.Blocks.{item, source_of};
 ghost use Rattle.dc_run.specs.Sample.{assigning, writing, IsWriting};
 
-use crate::{Ending, ending_line, run_program};
+use crate::Ending;
+use crate::report::ending_line;
+use crate::running::run_program;
 use dc_int::{FaultKind, Kind, Why};
 use dc_text::{DcList, DcText, NoMemory};
 use dc_tree::{
@@ -101,7 +103,7 @@ fn a_number_is_written(rt: HostRuntime) -> Result<(), Fail> {
     };
     symbols.push(rt.alloc(), symbol)?;
     let program = program_of(rt.alloc())?;
-    let out = run_program(rt.alloc(), &program, &symbols)?;
+    let out = run_program(rt.alloc(), &program, &symbols, 1)?;
     assert_eq!(rt; out.output.as_bytes(), b"7\n".as_slice());
     assert!(rt; matches!(out.ending, Ending::Done));
     Ok(())

@@ -1,12 +1,23 @@
 -- From the report that a call wrote to the cause of its answer.
-use Rattle.std.proofs.Common.{◌≡◌, ℕ, true, false, List, [], ◌++◌, take, Option, Some, None, refl, sym, ap, ◌∙◌, subst, inl, inr, arith, append-nil}
+use Rattle.std.proofs.Common.{◌≡◌, ◌≤◌, ℕ, true, false, List, [], ◌++◌, take, Option, Some, None, refl, sym, ap, ◌∙◌, subst, inl, inr, arith, append-nil}
 use Rattle.std.specs.Prelude.{MatchOption, IfSome, IsSome, option_map, codes}
+use Rattle.dc_int.specs.declared.fault.Why.{Why}
+use Rattle.dc_code.specs.Troubles as troubles
+use Rattle.dc_code.specs.Troubles.{Trouble, masked, raced}
+use Rattle.dc_code.specs.Verdicts.{trouble_in}
+use Rattle.dc_tree.specs.declared.program.Program.{Program}
+use Rattle.dc_tree.specs.declared.symbols.Symbol.{Symbol}
+use Rattle.dc_tree.specs.Blocks.{source_of}
+use Rattle.dc_front.specs.Form.{Spells}
+use Rattle.dc_front.proofs.Accepting.{one-program}
 use Rattle.dc_outer.specs.Causes.{Rose}
+use Rattle.dc_run.specs.ReportLine as endings
+use Rattle.dc_run.specs.ReportLine.{Ending}
 use Rattle.docon.specs.declared.report.Report.{Report}
-use Rattle.docon.specs.Report.{Outcome, contents, fault, file_of, read_limit, only_log, RunReport, RefusalReport, IsSourceReport, IsReportOf, IsReport, HasOutcome}
+use Rattle.docon.specs.Report.{Outcome, contents, fault, file_of, read_limit, only_log, run_of, status_of_why, status_of_trouble, status_of, report_of, RunReport, RefusalReport, IsSourceReport, IsReportOf, IsReport, HasOutcome}
 use Rattle.docon.specs.Room.{Fits}
 use Rattle.docon.specs.Writing.{Seen, seen, Took, Untouched, WroteAll, Reported, WritesReport, IsWritten}
-use Rattle.docon.specs.Causes.{Reading, Change, IsAccepted, IsRefused, Gave, Tells, IsStatus, IsUnlessFailed, Ran, CausesOfDone, CausesOfRefused, CausesOfWords, CausesOfRead, IsCutShort, CausesOfWrite, CausesOfMemory, NothingFailed, IsComplete, NoWriteFails}
+use Rattle.docon.specs.Causes.{Reading, Change, IsAccepted, IsRefused, Gave, Tells, IsStatus, IsUnlessFailed, Ran, RanWith, EndsWithStatus, CausesOfRun, CausesOfRefused, CausesOfWords, CausesOfRead, IsCutShort, CausesOfWrite, CausesOfMemory, NothingFailed, IsComplete, NoWriteFails}
 
 -- the call wrote its report or gave up
 abbrev pub Wrote : Reading → Change → Change → ℕ → Type 0
@@ -16,6 +27,34 @@ Wrote asked out log answer = WritesReport asked.words asked.told asked.before as
 pub record Steady (out log : Change) : Type 0 where
   pub out_steady : out.now.faults ≡ out.before.faults
   pub log_steady : log.now.faults ≡ log.before.faults
+
+-- ---- the status of a run
+
+-- the status of a run: 0, 2, 3 or 4
+record IsRunStatus (status : ℕ) : Type 0 where
+  most : status ≤ 4
+  other : ¬ (status ≡ 1)
+
+why-status : (why : Why) → IsRunStatus (status_of_why why)
+why-status (Why.Fault kind) = record { most = omega arith; other = λ one. omega (arith, one) }
+why-status Why.Spent = record { most = omega arith; other = λ one. omega (arith, one) }
+
+trouble-status : (trouble : Option Trouble) → IsRunStatus (status_of_trouble trouble)
+trouble-status None = record { most = omega arith; other = λ one. omega (arith, one) }
+trouble-status (Some (troubles.ended why line path)) = why-status why
+trouble-status (Some (masked why line path mask)) = why-status why
+trouble-status (Some (raced element first second path)) = record { most = omega arith; other = λ one. omega (arith, one) }
+
+ending-status : (ending : Ending) → IsRunStatus (status_of ending)
+ending-status endings.done = record { most = omega arith; other = λ one. omega (arith, one) }
+ending-status (endings.bad failure) = why-status failure.why
+ending-status (endings.stopped verdict bounds) = trouble-status (trouble_in verdict)
+
+run-status : (text : List ℕ) (report : Report) → RunReport text report → IsRunStatus report.status
+run-status text report run =
+    subst IsRunStatus (sym (ap (λ (x : Report). x.status) run.ran.is)) (ending-status (run_of run.symbols (source_of run.program)).ending)
+
+-- ---- how a call ended
 
 -- What the report of a reading is.
 pub data Kind (asked : Reading) (report : Report) : Type 0 where
@@ -42,7 +81,7 @@ kind_of asked report reported = kind_of_name asked report (file_of asked.words) 
 
 -- How a call ended, by its answer.
 pub data Ended (asked : Reading) (out log : Change) (answer : ℕ) : Type 0 where
-  with_done : Ran asked out log → Steady out log → answer ≡ 0 → Ended asked out log answer
+  with_run : (ran : Ran asked out log) → Steady out log → answer ≡ ran.report.status → answer ≤ 4 → ¬ (answer ≡ 1) → Ended asked out log answer
   with_refused : (text : List ℕ) → Gave asked text → IsRefused text → Steady out log → answer ≡ 1 → Ended asked out log answer
   with_words : file_of asked.words ≡ None → Steady out log → answer ≡ 5 → Ended asked out log answer
   with_read : IsSome (file_of asked.words) → Rose asked.before asked.now → Steady out log → answer ≡ 6 → Ended asked out log answer
@@ -68,18 +107,18 @@ ended_whole : (asked : Reading) (out log : Change) (answer : ℕ) (report : Repo
 ended_whole asked out log answer report (of_words nameless is) all =
     with_words nameless (steady_of report out log answer all) (all.status_is ∙ ap (λ (x : Report). x.status) is)
 ended_whole asked out log answer report (of_run text read run) all =
-    let nothing : Took log.before log.now [] = subst (λ (x : Report). Took log.before log.now x.log) run.is all.log_all in
     let ran : Ran asked out log = record {
       text = text;
       read = read;
       report = report;
       run = run;
       out_all = all.out_all;
-      log_none = untouched log.before log.now nothing;
+      log_all = all.log_all;
     } in
-    with_done ran (steady_of report out log answer all) (all.status_is ∙ ap (λ (x : Report). x.status) run.is)
+    let status = run-status text report run in
+    with_run ran (steady_of report out log answer all) all.status_is (omega (arith, all.status_is, status.most)) (λ one. status.other (sym all.status_is ∙ one))
 ended_whole asked out log answer report (of_refusal text read refusal) all =
-    with_refused text read (λ accepted. refusal.refused accepted.0 accepted.1) (steady_of report out log answer all) (all.status_is ∙ ap (λ (x : Report). x.status) refusal.is)
+    with_refused text read (λ accepted. refusal.refused accepted.0 accepted.1 accepted.2) (steady_of report out log answer all) (all.status_is ∙ ap (λ (x : Report). x.status) refusal.is)
 ended_whole asked out log answer report (of_fault named rose is) all =
     with_read named rose (steady_of report out log answer all) (all.status_is ∙ ap (λ (x : Report). x.status) is)
 
@@ -94,12 +133,12 @@ ended asked out log answer (inl gave_up) = with_memory gave_up.out_none gave_up.
 ended asked out log answer (inr wrote) = ended_written asked out log answer wrote.0 wrote.1 wrote.2
 
 status_of_ended : (asked : Reading) (out log : Change) (answer : ℕ) → Ended asked out log answer → IsStatus answer
-status_of_ended asked out log answer (with_done ran steady is) = inl is
-status_of_ended asked out log answer (with_refused text read refused steady is) = inr (inl is)
-status_of_ended asked out log answer (with_words nameless steady is) = inr (inr (inl is))
-status_of_ended asked out log answer (with_read named rose steady is) = inr (inr (inr (inl is)))
-status_of_ended asked out log answer (with_write report reported cut is) = inr (inr (inr (inr (inl is))))
-status_of_ended asked out log answer (with_memory out_none log_none is) = inr (inr (inr (inr (inr is))))
+status_of_ended asked out log answer (with_run ran steady is most other) = omega arith
+status_of_ended asked out log answer (with_refused text read refused steady is) = omega arith
+status_of_ended asked out log answer (with_words nameless steady is) = omega arith
+status_of_ended asked out log answer (with_read named rose steady is) = omega arith
+status_of_ended asked out log answer (with_write report reported cut is) = omega arith
+status_of_ended asked out log answer (with_memory out_none log_none is) = omega arith
 
 -- what was given is what was told
 same_text : (limit : ℕ) (held : Option (List ℕ)) (given text : List ℕ) → IfSome held (λ whole. given ≡ take limit whole) → option_map (take limit) held ≡ Some text → given ≡ text
@@ -116,30 +155,37 @@ given_is_told asked given text gave tells =
 not_none : (word : Option (List ℕ)) (file : List ℕ) → word ≡ None → word ≡ Some file → ⊥
 not_none word file nameless some = let no : None ≡ Some file = sym nameless ∙ some in cc
 
-pub only_done : (asked : Reading) (out log : Change) (answer : ℕ) → Ended asked out log answer → answer ≡ 0 → Ran asked out log
-only_done asked out log answer (with_done ran steady is) zeroed = ran
-only_done asked out log answer (with_refused text read refused steady is) zeroed = absurd (omega arith)
-only_done asked out log answer (with_words nameless steady is) zeroed = absurd (omega arith)
-only_done asked out log answer (with_read named rose steady is) zeroed = absurd (omega arith)
-only_done asked out log answer (with_write report reported cut is) zeroed = absurd (omega arith)
-only_done asked out log answer (with_memory out_none log_none is) zeroed = absurd (omega arith)
+only_run : (status : ℕ) → status ≤ 4 → ¬ (status ≡ 1) → (asked : Reading) (out log : Change) (answer : ℕ) → Ended asked out log answer → answer ≡ status → RanWith status asked out log
+only_run status few other asked out log answer (with_run ran steady is most apart) same = record { ran = ran; is = sym is ∙ same }
+only_run status few other asked out log answer (with_refused text read refused steady is) same = absurd (other (sym same ∙ is))
+only_run status few other asked out log answer (with_words nameless steady is) same = absurd (omega arith)
+only_run status few other asked out log answer (with_read named rose steady is) same = absurd (omega arith)
+only_run status few other asked out log answer (with_write report reported cut is) same = absurd (omega arith)
+only_run status few other asked out log answer (with_memory out_none log_none is) same = absurd (omega arith)
 
-wherever_accepted : (asked : Reading) (out log : Change) (answer : ℕ) → Ended asked out log answer → (text : List ℕ) → Tells asked text → IsAccepted text → IsUnlessFailed 0 answer
-wherever_accepted asked out log answer (with_done ran steady is) text tells accepted = inl is
-wherever_accepted asked out log answer (with_refused given read refused steady is) text tells accepted =
-    absurd (refused (subst IsAccepted (sym (given_is_told asked given text read tells)) accepted))
-wherever_accepted asked out log answer (with_words nameless steady is) text tells accepted = absurd (not_none (file_of asked.words) tells.file nameless tells.named)
-wherever_accepted asked out log answer (with_read named rose steady is) text tells accepted = absurd (tells.no_fault rose)
-wherever_accepted asked out log answer (with_write report reported cut is) text tells accepted = inr (inl is)
-wherever_accepted asked out log answer (with_memory out_none log_none is) text tells accepted = inr (inr is)
+-- a source has one program, so its run has one status
+one_status : (text : List ℕ) (report : Report) (run : RunReport text report) (status : ℕ) → EndsWithStatus status text → report.status ≡ status
+one_status text report run status ends =
+    let same = one-program text run.program ends.program run.symbols ends.symbols run.spelled ends.spelled in
+    ap (λ (x : Report). x.status) run.ran.is ∙ (λ i. status_of (run_of (same.1 i) (source_of (same.0 i))).ending) ∙ ends.is
 
-pub causes_done : (asked : Reading) (out log : Change) (answer : ℕ) → Wrote asked out log answer → CausesOfDone asked out log answer
-causes_done asked out log answer wrote =
+wherever_run : (status : ℕ) (asked : Reading) (out log : Change) (answer : ℕ) → Ended asked out log answer → (text : List ℕ) → Tells asked text → EndsWithStatus status text → IsUnlessFailed status answer
+wherever_run status asked out log answer (with_run ran steady is most other) text tells ends =
+    inl (is ∙ one_status ran.text ran.report ran.run status (subst (EndsWithStatus status) (sym (given_is_told asked ran.text text ran.read tells)) ends))
+wherever_run status asked out log answer (with_refused given read refused steady is) text tells ends =
+    absurd (refused (subst IsAccepted (sym (given_is_told asked given text read tells)) (ends.program, ends.symbols, ends.spelled)))
+wherever_run status asked out log answer (with_words nameless steady is) text tells ends = absurd (not_none (file_of asked.words) tells.file nameless tells.named)
+wherever_run status asked out log answer (with_read named rose steady is) text tells ends = absurd (tells.no_fault rose)
+wherever_run status asked out log answer (with_write report reported cut is) text tells ends = inr (inl is)
+wherever_run status asked out log answer (with_memory out_none log_none is) text tells ends = inr (inr is)
+
+pub causes_run : (status : ℕ) → status ≤ 4 → ¬ (status ≡ 1) → (asked : Reading) (out log : Change) (answer : ℕ) → Wrote asked out log answer → CausesOfRun status asked out log answer
+causes_run status few other asked out log answer wrote =
     let end = ended asked out log answer wrote in
-    record { only = only_done asked out log answer end; wherever = wherever_accepted asked out log answer end }
+    record { only = only_run status few other asked out log answer end; wherever = wherever_run status asked out log answer end }
 
 only_refused : (asked : Reading) (out log : Change) (answer : ℕ) → Ended asked out log answer → answer ≡ 1 → (text : List ℕ) × Gave asked text × IsRefused text
-only_refused asked out log answer (with_done ran steady is) one = absurd (omega arith)
+only_refused asked out log answer (with_run ran steady is most other) one = absurd (other one)
 only_refused asked out log answer (with_refused text read refused steady is) one = (text, read, refused)
 only_refused asked out log answer (with_words nameless steady is) one = absurd (omega arith)
 only_refused asked out log answer (with_read named rose steady is) one = absurd (omega arith)
@@ -147,8 +193,8 @@ only_refused asked out log answer (with_write report reported cut is) one = absu
 only_refused asked out log answer (with_memory out_none log_none is) one = absurd (omega arith)
 
 wherever_refused : (asked : Reading) (out log : Change) (answer : ℕ) → Ended asked out log answer → (text : List ℕ) → Tells asked text → IsRefused text → IsUnlessFailed 1 answer
-wherever_refused asked out log answer (with_done ran steady is) text tells refused =
-    absurd (refused (subst IsAccepted (given_is_told asked ran.text text ran.read tells) (ran.run.program, ran.run.spelled)))
+wherever_refused asked out log answer (with_run ran steady is most other) text tells refused =
+    absurd (refused (subst IsAccepted (given_is_told asked ran.text text ran.read tells) (ran.run.program, ran.run.symbols, ran.run.spelled)))
 wherever_refused asked out log answer (with_refused given read others steady is) text tells refused = inl is
 wherever_refused asked out log answer (with_words nameless steady is) text tells refused = absurd (not_none (file_of asked.words) tells.file nameless tells.named)
 wherever_refused asked out log answer (with_read named rose steady is) text tells refused = absurd (tells.no_fault rose)
@@ -161,7 +207,7 @@ causes_refused asked out log answer wrote =
     record { only = only_refused asked out log answer end; wherever = wherever_refused asked out log answer end }
 
 only_words : (asked : Reading) (out log : Change) (answer : ℕ) → Ended asked out log answer → answer ≡ 5 → file_of asked.words ≡ None
-only_words asked out log answer (with_done ran steady is) five = absurd (omega arith)
+only_words asked out log answer (with_run ran steady is most other) five = absurd (omega arith)
 only_words asked out log answer (with_refused text read refused steady is) five = absurd (omega arith)
 only_words asked out log answer (with_words nameless steady is) five = nameless
 only_words asked out log answer (with_read named rose steady is) five = absurd (omega arith)
@@ -174,7 +220,7 @@ not_some None nameless some = let no : false ≡ true = some in cc
 not_some (Some file) nameless some = let no : Some file ≡ None = nameless in cc
 
 wherever_words : (asked : Reading) (out log : Change) (answer : ℕ) → Ended asked out log answer → file_of asked.words ≡ None → IsUnlessFailed 5 answer
-wherever_words asked out log answer (with_done ran steady is) nameless = absurd (not_none (file_of asked.words) ran.read.file nameless ran.read.named)
+wherever_words asked out log answer (with_run ran steady is most other) nameless = absurd (not_none (file_of asked.words) ran.read.file nameless ran.read.named)
 wherever_words asked out log answer (with_refused text read refused steady is) nameless = absurd (not_none (file_of asked.words) read.file nameless read.named)
 wherever_words asked out log answer (with_words same steady is) nameless = inl is
 wherever_words asked out log answer (with_read named rose steady is) nameless = absurd (not_some (file_of asked.words) nameless named)
@@ -187,7 +233,7 @@ causes_words asked out log answer wrote =
     record { only = only_words asked out log answer end; wherever = wherever_words asked out log answer end }
 
 only_read : (asked : Reading) (out log : Change) (answer : ℕ) → Ended asked out log answer → answer ≡ 6 → IsSome (file_of asked.words) × Rose asked.before asked.now
-only_read asked out log answer (with_done ran steady is) six = absurd (omega arith)
+only_read asked out log answer (with_run ran steady is most other) six = absurd (omega arith)
 only_read asked out log answer (with_refused text read refused steady is) six = absurd (omega arith)
 only_read asked out log answer (with_words nameless steady is) six = absurd (omega arith)
 only_read asked out log answer (with_read named rose steady is) six = (named, rose)
@@ -195,7 +241,7 @@ only_read asked out log answer (with_write report reported cut is) six = absurd 
 only_read asked out log answer (with_memory out_none log_none is) six = absurd (omega arith)
 
 wherever_read : (asked : Reading) (out log : Change) (answer : ℕ) → Ended asked out log answer → (file_of asked.words ≡ None → asked.now ≡ asked.before) → ¬ (asked.now ≡ asked.before) → IsUnlessFailed 6 answer
-wherever_read asked out log answer (with_done ran steady is) unread moved = absurd (moved ran.read.gave.1)
+wherever_read asked out log answer (with_run ran steady is most other) unread moved = absurd (moved ran.read.gave.1)
 wherever_read asked out log answer (with_refused text read refused steady is) unread moved = absurd (moved read.gave.1)
 wherever_read asked out log answer (with_words nameless steady is) unread moved = absurd (moved (unread nameless))
 wherever_read asked out log answer (with_read named rose steady is) unread moved = inl is
@@ -209,7 +255,7 @@ causes_read asked out log answer wrote unread =
 
 only_write : (asked : Reading) (out log : Change) (answer : ℕ) → Ended asked out log answer → answer ≡ 7
     → (report : Report) × Reported asked.words asked.told asked.before asked.now report × IsCutShort report out log
-only_write asked out log answer (with_done ran steady is) seven = absurd (omega arith)
+only_write asked out log answer (with_run ran steady is most other) seven = absurd (omega arith)
 only_write asked out log answer (with_refused text read refused steady is) seven = absurd (omega arith)
 only_write asked out log answer (with_words nameless steady is) seven = absurd (omega arith)
 only_write asked out log answer (with_read named rose steady is) seven = absurd (omega arith)
@@ -217,7 +263,7 @@ only_write asked out log answer (with_write report reported cut is) seven = (rep
 only_write asked out log answer (with_memory out_none log_none is) seven = absurd (omega arith)
 
 wherever_write : (asked : Reading) (out log : Change) (answer : ℕ) → Ended asked out log answer → ¬ (Steady out log) → answer ≡ 7
-wherever_write asked out log answer (with_done ran steady is) moved = absurd (moved steady)
+wherever_write asked out log answer (with_run ran steady is most other) moved = absurd (moved steady)
 wherever_write asked out log answer (with_refused text read refused steady is) moved = absurd (moved steady)
 wherever_write asked out log answer (with_words nameless steady is) moved = absurd (moved steady)
 wherever_write asked out log answer (with_read named rose steady is) moved = absurd (moved steady)
@@ -235,7 +281,7 @@ causes_write asked out log answer wrote =
     }
 
 only_memory : (asked : Reading) (out log : Change) (answer : ℕ) → Ended asked out log answer → CausesOfMemory out log answer
-only_memory asked out log answer (with_done ran steady is) = λ eight. absurd (omega arith)
+only_memory asked out log answer (with_run ran steady is most other) = λ eight. absurd (omega arith)
 only_memory asked out log answer (with_refused text read refused steady is) = λ eight. absurd (omega arith)
 only_memory asked out log answer (with_words nameless steady is) = λ eight. absurd (omega arith)
 only_memory asked out log answer (with_read named rose steady is) = λ eight. absurd (omega arith)
@@ -279,7 +325,7 @@ complete asked out log answer (inr wrote) =
 -- no report has the status of a failed write
 not_seven_kind : (asked : Reading) (report : Report) → Kind asked report → ¬ (report.status ≡ 7)
 not_seven_kind asked report (of_words nameless is) = λ seven. absurd (let same : report.status ≡ 5 = ap (λ (x : Report). x.status) is in omega arith)
-not_seven_kind asked report (of_run text read run) = λ seven. absurd (let same : report.status ≡ 0 = ap (λ (x : Report). x.status) run.is in omega arith)
+not_seven_kind asked report (of_run text read run) = λ seven. absurd (let most : report.status ≤ 4 = (run-status text report run).most in omega arith)
 not_seven_kind asked report (of_refusal text read refusal) = λ seven. absurd (let same : report.status ≡ 1 = ap (λ (x : Report). x.status) refusal.is in omega arith)
 not_seven_kind asked report (of_fault named rose is) = λ seven. absurd (let same : report.status ≡ 6 = ap (λ (x : Report). x.status) is in omega arith)
 

@@ -1,10 +1,12 @@
 -- Where each answer of the top call comes, and what then stands. This project's own.
-use Rattle.std.specs.Prelude.{◌≡◌, ℕ, List, take, Option, Some, None, option_map, IsSome, IfSome, ◌⊎◌}
+use Rattle.std.specs.Prelude.{◌≡◌, ℕ, ◌≤◌, List, take, Option, Some, None, option_map, IsSome, IfSome, ◌⊎◌}
 use Rattle.dc_tree.specs.declared.program.Program.{Program}
-use Rattle.dc_front.specs.FirstForm.{Spells}
+use Rattle.dc_tree.specs.declared.symbols.Symbol.{Symbol}
+use Rattle.dc_tree.specs.Blocks.{source_of}
+use Rattle.dc_front.specs.Form.{Spells}
 use Rattle.dc_outer.specs.Causes.{Rose}
 use Rattle.docon.specs.declared.report.Report.{Report}
-use Rattle.docon.specs.Report.{contents, file_of, read_limit, RunReport, IsReport, HasOutcome}
+use Rattle.docon.specs.Report.{contents, file_of, read_limit, run_of, status_of, RunReport, IsReport, HasOutcome}
 use Rattle.docon.specs.Room.{Fits}
 use Rattle.docon.specs.Writing.{Seen, Took, FailedIn, Untouched, WroteAll, GaveUp, Reported}
 
@@ -37,7 +39,7 @@ NoWriteFault sink = NoFault sink.before.faults sink.now.faults
 
 -- some program is spelled by the source
 abbrev pub IsAccepted : List ℕ → Type 0
-IsAccepted text = (program : Program) × Spells text program
+IsAccepted text = (program : Program) × (symbols : List Symbol) × Spells text program symbols
 
 -- no program is spelled by the source
 abbrev pub IsRefused : List ℕ → Type 0
@@ -62,24 +64,37 @@ pub record Tells (asked : Reading) (text : List ℕ) : Type 0 where
 abbrev pub IsUnlessFailed : ℕ → ℕ → Type 0
 IsUnlessFailed status answer = (answer ≡ status) ⊎ ((answer ≡ 7) ⊎ (answer ≡ 8))
 
--- one of the six answers
+-- one of the nine answers, 0 to 8
 abbrev pub IsStatus : ℕ → Type 0
-IsStatus answer = (answer ≡ 0) ⊎ ((answer ≡ 1) ⊎ ((answer ≡ 5) ⊎ ((answer ≡ 6) ⊎ ((answer ≡ 7) ⊎ (answer ≡ 8)))))
+IsStatus answer = answer ≤ 8
 
--- A source was read that some program is spelled by, all that its run gives was written to out,
--- and nothing to the log.
+-- A source was read that some program is spelled by, and the report of its run was written whole: what it
+-- wrote to out, and the line that tells how it ended to the log.
 pub record Ran (asked : Reading) (out log : Change) : Type 0 where
   pub text : List ℕ
   pub read : Gave asked text
   pub report : Report
   pub run : RunReport text report
   pub out_all : Took out.before out.now report.out
-  pub log_none : Untouched log.before log.now
+  pub log_all : Took log.before log.now report.log
 
--- Answer 0: only where an accepted source ran; and wherever the files tell an accepted source.
-pub record CausesOfDone (asked : Reading) (out log : Change) (answer : ℕ) : Type 0 where
-  pub only : answer ≡ 0 → Ran asked out log
-  pub wherever : (text : List ℕ) → Tells asked text → IsAccepted text → IsUnlessFailed 0 answer
+-- It ran, and its run has this status.
+pub record RanWith (status : ℕ) (asked : Reading) (out log : Change) : Type 0 where
+  pub ran : Ran asked out log
+  pub is : ran.report.status ≡ status
+
+-- The source spells a program whose run has this status.
+pub record EndsWithStatus (status : ℕ) (text : List ℕ) : Type 0 where
+  pub program : Program
+  pub symbols : List Symbol
+  pub spelled : Spells text program symbols
+  pub is : status_of (run_of symbols (source_of program)).ending ≡ status
+
+-- Answers 0, 2, 3 and 4: only where a source was read whose run has this status, and its report was written
+-- whole; and wherever the files tell such a source.
+pub record CausesOfRun (status : ℕ) (asked : Reading) (out log : Change) (answer : ℕ) : Type 0 where
+  pub only : answer ≡ status → RanWith status asked out log
+  pub wherever : (text : List ℕ) → Tells asked text → EndsWithStatus status text → IsUnlessFailed status answer
 
 -- Answer 1: only where a source was read that is refused; and wherever the files tell such a source.
 pub record CausesOfRefused (asked : Reading) (answer : ℕ) : Type 0 where

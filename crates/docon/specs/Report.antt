@@ -1,14 +1,20 @@
 -- The report: what the program writes and answers, from its words and the outcome of the file's
 -- reading. This project's own.
-use Rattle.std.specs.Prelude.{◌≡◌, ℕ, Bool, false, not, ◌&&◌, ◌==◌, List, [], ◌∷◌, ◌++◌, take, codes, decimal, Option, Some, None, MatchOption, IfSome, ℤ, if◌then◌else◌, ◌⊎◌}
+use Rattle.std.specs.Prelude.{◌≡◌, ℕ, Bool, false, not, ◌&&◌, ◌==◌, List, [], ◌∷◌, ◌++◌, take, codes, decimal, Option, Some, None, MatchOption, IfSome, if◌then◌else◌, ◌⊎◌}
 use Rattle.std.specs.Str.{bytes_eq, is_utf8}
+use Rattle.dc_int.specs.declared.fault.Why.{Why}
+use Rattle.dc_code.specs.Inner.{judging}
+use Rattle.dc_code.specs.Troubles.{Trouble, ended, masked, raced}
+use Rattle.dc_code.specs.Verdicts.{trouble_in}
 use Rattle.dc_tree.specs.declared.program.Program.{Program}
-use Rattle.dc_tree.specs.Syntax.{tree}
-use Rattle.dc_front.specs.FirstForm.{Spells}
+use Rattle.dc_tree.specs.declared.symbols.Symbol.{Symbol}
+use Rattle.dc_tree.specs.Blocks.{Source, source_of}
+use Rattle.dc_front.specs.Form.{Spells}
 use Rattle.dc_outer.specs.Causes.{Rose}
+use Rattle.dc_run.specs.Playing as playing
+use Rattle.dc_run.specs.ReportLine.{Ending, done, bad, stopped, outside_names, report_line}
+use Rattle.dc_run.specs.VisitOrders.{HoldsAtVisits}
 use Rattle.docon.specs.declared.report.Report.{Report}
-use Rattle.dc_tree.specs.Literals.{number_of}
-use Rattle.docon.specs.Meaning.{EndsWith, line_of}
 
 abbrev pub feed : List ℕ
 feed = 10 ∷ []
@@ -46,17 +52,55 @@ pub data Outcome : Type 0 where
 abbrev pub refusal_words : ℕ → ℕ → List ℕ
 refusal_words line rule = codes "refused: line " ++ decimal line ++ codes ": K" ++ decimal rule
 
--- The source is accepted, and its run gives the report: the array's line, and status 0.
+-- ---- the run of an accepted source
+
+-- The turns of the main program, of each mask and of each iteration.
+abbrev pub default_turns : ℕ
+default_turns = 1000000
+
+-- The run of a program, its loops judged. No program of today reads, so it is given no input.
+abbrev pub run_of : List Symbol → Source → playing.Outcome
+run_of symbols source = playing.run judging symbols source default_turns []
+
+-- 3 for a fault, 4 for a spent limit
+abbrev pub status_of_why : Why → ℕ
+status_of_why (Why.Fault kind) = 3
+status_of_why Why.Spent = 4
+
+abbrev pub status_of_trouble : Option Trouble → ℕ
+status_of_trouble None = 0
+status_of_trouble (Some (ended why line path)) = status_of_why why
+status_of_trouble (Some (masked why line path mask)) = status_of_why why
+status_of_trouble (Some (raced element first second path)) = 2
+
+-- The status of a run: 0 where it came to its end, 2 for a race, 3 for a fault, 4 for a spent limit.
+abbrev pub status_of : Ending → ℕ
+status_of done = 0
+status_of (bad failure) = status_of_why failure.why
+status_of (stopped verdict bounds) = status_of_trouble (trouble_in verdict)
+
+-- What the run wrote, the line that tells how it ended, and its status.
+abbrev pub report_of : List Symbol → playing.Outcome → Report
+report_of symbols outcome = record { out = outcome.output; log = report_line (outside_names symbols) outcome.ending; status = status_of outcome.ending }
+
+-- The report is that of the program's run. And at each loop that the run reaches, what is said of the loop
+-- holds in every order of its iterations: where it goes on, each order ends with the one store with which the
+-- run goes on; an iteration that doesn't end well ends each order that it begins; and the two that race break
+-- the restriction of the named element in each order that they begin.
+pub record IsRunReport (symbols : List Symbol) (source : Source) (report : Report) : Type 0 where
+  pub is : report ≡ report_of symbols (run_of symbols source)
+  pub orders : HoldsAtVisits symbols source default_turns []
+
+-- The source is accepted: some program is spelled by it, and the report is that of its run.
 pub record RunReport (text : List ℕ) (report : Report) : Type 0 where
   pub program : Program
-  pub spelled : Spells text program
-  pub numbers : List ℤ
-  pub ended : EndsWith (number_of spelled.form.size) (tree spelled.value) numbers
-  pub is : report ≡ record { out = line_of numbers; log = []; status = 0 }
+  pub symbols : List Symbol
+  pub spelled : Spells text program symbols
+  pub ran : IsRunReport symbols (source_of program) report
 
--- The source is refused: no program of the form is spelled by it.
+-- The source is refused: no program is spelled by it.
 pub record RefusalReport (text : List ℕ) (report : Report) : Type 0 where
-  pub refused : (program : Program) → Spells text program → ⊥
+  pub refused : (program : Program) (symbols : List Symbol) → Spells text program symbols → ⊥
   pub is : report ≡ only_log (refusal_words 1 0) 1
 
 abbrev pub IsSourceReport : List ℕ → Report → Type 0

@@ -2,14 +2,11 @@
 #![tactic(auto)]
 
 mod command;
-mod laws;
-mod parts;
 mod report;
-mod runner;
+mod statuses;
 mod sure;
 mod top;
 mod writing;
 
-pub use laws::every_order_gives_one_store;
 pub use sure::run_sure;
 pub use top::docon;

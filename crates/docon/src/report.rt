@@ -1,17 +1,21 @@
 ghost use Rattle.std.specs.Prelude.{◌≡◌, IfOk};
-ghost use Rattle.docon.specs.Report.{only_log, refusal_words, IsSourceReport};
-ghost use Rattle.docon.specs.Running.{IsRunnable, Prints};
+ghost use Rattle.dc_tree.specs.Blocks.{source_of};
+ghost use Rattle.docon.specs.Report.{only_log, refusal_words, IsRunReport, IsSourceReport};
 
-use crate::parts::parts_in;
-use crate::runner::{number_of, numbers, put_line};
-use dc_front::accept;
+use crate::statuses::status_of;
+use dc_front::{Accepted, accept};
+use dc_outer::Gate;
+use dc_run::{report_line, run};
 use dc_text::{DcText, NoMemory};
-use dc_tree::{Fail, Program, Refusal};
+use dc_tree::{Fail, Refusal};
 use std::alloc::Global;
 
-const DONE: u8 = 0;
-
 const REFUSED: u8 = 1;
+
+/// The turns of the main program, of each mask and of each iteration.
+const TURNS: u64 = 1_000_000;
+
+const WORKERS: u32 = 4;
 
 /// The bytes for standard output and for standard error, and the status.
 #[derive(Debug, Drop)]
@@ -44,30 +48,34 @@ fn refusal(alloc: Global, refusal: Refusal) -> Result<Report, NoMemory>
     only_log(alloc, words.as_bytes(), REFUSED)
 }
 
-/// The line that an accepted program prints.
-fn run(alloc: Global, program: &Program) -> Result<DcText, NoMemory>
-    requires { IsRunnable program.now }
-    ensures { IfOk result (Prints program.now) }
+/// The report of an accepted source's run.
+fn run_report<G: Gate + Sync>(
+    alloc: Global,
+    accepted: &Accepted,
+    gate: &G,
+) -> Result<Report, NoMemory>
+    ensures { IfOk result (IsRunReport (accepted.now).symbols (source_of (accepted.now).program)) }
 {
-    let mut line = DcText::new(alloc);
-    if let Some(found) = parts_in(&program.body) {
-        let size = number_of(found.size.as_bytes());
-        let numbers = numbers(alloc, found.value, size)?;
-        put_line(&mut line, numbers.as_slice())?;
-    }
-    Ok(line)
+    let ran = run(alloc, accepted, &[], TURNS, WORKERS, gate)?;
+    let log = report_line(alloc, accepted, &ran.ending)?;
+    let status = status_of(&ran.ending);
+    Ok(Report {
+        out: ran.output,
+        log,
+        status,
+    })
 }
 
 /// The report of a source.
-pub(crate) fn source_report(alloc: Global, text: &[u8]) -> Result<Report, NoMemory>
+pub(crate) fn source_report<G: Gate + Sync>(
+    alloc: Global,
+    text: &[u8],
+    gate: &G,
+) -> Result<Report, NoMemory>
     ensures { IfOk result (IsSourceReport text.now) }
 {
     match accept(alloc, text) {
-        Ok(accepted) => Ok(Report {
-            out: run(alloc, accepted.program())?,
-            log: DcText::new(alloc),
-            status: DONE,
-        }),
+        Ok(accepted) => run_report(alloc, &accepted, gate),
         Err(Fail::Refused(rule)) => refusal(alloc, rule),
         Err(Fail::NoMemory) => Err(NoMemory),
     }

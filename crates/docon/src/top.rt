@@ -1,5 +1,5 @@
 ghost use Rattle.std.specs.Prelude.{◌≡◌, None, IfOk};
-ghost use Rattle.docon.specs.Causes.{reading, change, IsStatus, CausesOfDone, CausesOfRefused, CausesOfWords, CausesOfRead, CausesOfWrite, CausesOfMemory, IsComplete, NoWriteFails};
+ghost use Rattle.docon.specs.Causes.{reading, change, IsStatus, CausesOfRun, CausesOfRefused, CausesOfWords, CausesOfRead, CausesOfWrite, CausesOfMemory, IsComplete, NoWriteFails};
 ghost use Rattle.docon.specs.Report.{file_of as named_file};
 ghost use Rattle.docon.specs.Writing.{Reported, WritesReport, seen};
 
@@ -19,7 +19,12 @@ const READ_FAULT: u8 = 6;
 
 const NO_MEMORY: u8 = 8;
 
-fn report<F: Files>(alloc: Global, words: &[DcText], files: &mut F) -> Result<Report, NoMemory>
+fn report<F: Files, G: Gate + Sync>(
+    alloc: Global,
+    words: &[DcText],
+    files: &mut F,
+    gate: &G,
+) -> Result<Report, NoMemory>
     ensures report { IfOk result (Reported words.now (F.told files.old) (F.faults files.old) (F.faults files.new)) }
     ensures unread { named_file words.now ≡ None → files.new ≡ files.old }
 {
@@ -27,7 +32,7 @@ fn report<F: Files>(alloc: Global, words: &[DcText], files: &mut F) -> Result<Re
         return only_log(alloc, b"words: command", WORDS);
     };
     match files.read(alloc, file, MOST_SOURCE) {
-        Ok(text) => source_report(alloc, text.as_slice()),
+        Ok(text) => source_report(alloc, text.as_slice(), gate),
         Err(FileFault::Failed) => only_log(alloc, b"read: file", READ_FAULT),
         Err(FileFault::NoMemory) => Err(NoMemory),
     }
@@ -43,7 +48,7 @@ pub fn docon<F: Files, S: Source, W: Sink, L: Sink, G: Gate + Sync>(
     input: &mut S,
     out: &mut W,
     log: &mut L,
-    _gate: &G,
+    gate: &G,
 ) -> u8
     ensures report { WritesReport words.now (F.told files.old) (F.faults files.old) (F.faults files.new)
         (seen (W.taken out.old) (W.faults out.old)) (seen (W.taken out.new) (W.faults out.new))
@@ -51,7 +56,16 @@ pub fn docon<F: Files, S: Source, W: Sink, L: Sink, G: Gate + Sync>(
     ensures input { input.new ≡ input.old }
     ensures unread { named_file words.now ≡ None → files.new ≡ files.old }
     ensures status { IsStatus result }
-    ensures done { CausesOfDone (reading words.now (F.told files.old) (F.faults files.old) (F.faults files.new))
+    ensures done { CausesOfRun 0 (reading words.now (F.told files.old) (F.faults files.old) (F.faults files.new))
+        (change (W.taken out.old) (W.faults out.old) (W.taken out.new) (W.faults out.new))
+        (change (L.taken log.old) (L.faults log.old) (L.taken log.new) (L.faults log.new)) result }
+    ensures raced { CausesOfRun 2 (reading words.now (F.told files.old) (F.faults files.old) (F.faults files.new))
+        (change (W.taken out.old) (W.faults out.old) (W.taken out.new) (W.faults out.new))
+        (change (L.taken log.old) (L.faults log.old) (L.taken log.new) (L.faults log.new)) result }
+    ensures faulted { CausesOfRun 3 (reading words.now (F.told files.old) (F.faults files.old) (F.faults files.new))
+        (change (W.taken out.old) (W.faults out.old) (W.taken out.new) (W.faults out.new))
+        (change (L.taken log.old) (L.faults log.old) (L.taken log.new) (L.faults log.new)) result }
+    ensures spent { CausesOfRun 4 (reading words.now (F.told files.old) (F.faults files.old) (F.faults files.new))
         (change (W.taken out.old) (W.faults out.old) (W.taken out.new) (W.faults out.new))
         (change (L.taken log.old) (L.faults log.old) (L.taken log.new) (L.faults log.new)) result }
     ensures refused { CausesOfRefused (reading words.now (F.told files.old) (F.faults files.old) (F.faults files.new)) result }
@@ -68,7 +82,7 @@ pub fn docon<F: Files, S: Source, W: Sink, L: Sink, G: Gate + Sync>(
     ensures room { NoWriteFails (reading words.now (F.told files.old) (F.faults files.old) (F.faults files.new))
         (W.room out.old) (L.room log.old) result }
 {
-    match report(alloc, words, files) {
+    match report(alloc, words, files, gate) {
         Ok(report) => write_report(&report, out, log),
         Err(NoMemory) => NO_MEMORY,
     }

@@ -2,8 +2,10 @@
 #![tactic(auto)]
 
 #[cfg(test)]
-mod first_form;
+mod calls;
+#[cfg(test)]
+mod loops;
 #[cfg(test)]
 mod plain_judge;
 #[cfg(test)]
-mod second_form;
+mod top_call;

@@ -1,9 +1,9 @@
-//! Loops of sources of the next form, judged by themselves over given states.
+//! Loops judged by themselves, over given states.
 
 ghost use Rattle.std.specs.Prelude.{◌≤◌, length};
 
 use dc_code::{Party, Race};
-use dc_front::accept_second;
+use dc_front::accept;
 use dc_int::{Action, ElementId, FaultKind, Why};
 use dc_meaning::{PlainVerdict, has_loop, plain_verdict};
 use dc_text::NoMemory;
@@ -20,7 +20,7 @@ fn judged(
 ) -> Result<Option<PlainVerdict>, NoMemory>
     requires { length active.now ≤ 4194304 }
 {
-    let accepted = match accept_second(alloc, source) {
+    let accepted = match accept(alloc, source) {
         Ok(accepted) => accepted,
         Err(Refused::Refused(_)) => return Ok(None),
         Err(Refused::NoMemory) => return Err(NoMemory),

@@ -4,14 +4,14 @@ use Rattle.dc_run.proofs.Beginnings.{small-parts, are-visitable, begins, comes-t
 use Rattle.dc_run.proofs.running.run_program.Goals as goal
 
 pub run_body-requires : goal.run_body-requires
-run_body-requires g c =
+run_body-requires c =
     let source = source_of c.args.program.now in
     let parts = small-parts c.args.symbols.now source c.requires in
-    (parts.0, (parts.1, (are-visitable c.args.symbols.now source g.turns c.requires, (begins c.args.symbols.now c.in_ok-cells.cells c.new-output.result c.in_ok-cells.ensures c.new-output.ensures, refl))))
+    (parts.0, (parts.1, (are-visitable c.args.symbols.now source c.args.turns c.requires, (begins c.args.symbols.now c.in_ok-cells.cells c.new-output.result c.in_ok-cells.ensures c.new-output.ensures, refl))))
 
 pub returns-clause-is : goal.returns-clause-is
-returns-clause-is g c = λ given.
-    comes-to c.args.symbols.now (source_of c.args.program.now) g.turns given c.in_ok-cells.cells c.new-output.result c.run_body.new.standing c.in_ok-ending.ending c.in_ok-cells.ensures c.new-output.ensures c.in_ok-ending.ensures
+returns-clause-is c = λ given.
+    comes-to c.args.symbols.now (source_of c.args.program.now) c.args.turns given c.in_ok-cells.cells c.new-output.result c.run_body.new.standing c.in_ok-ending.ending c.in_ok-cells.ensures c.new-output.ensures c.in_ok-ending.ensures
 
 pub returns-clause-owns : goal.returns-clause-owns
-returns-clause-owns g c = c.in_ok-ending.ensures.own
+returns-clause-owns c = c.in_ok-ending.ensures.own

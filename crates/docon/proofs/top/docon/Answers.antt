@@ -1,6 +1,6 @@
-use Rattle.std.proofs.Common.{ap, inr, refl}
+use Rattle.std.proofs.Common.{ap, inr, refl, arith}
 use Rattle.docon.specs.Causes.{Reading, Change, reading, change}
-use Rattle.docon.proofs.Causes.{Wrote, causes_done, causes_refused, causes_words, causes_read, causes_write, causes_memory, complete, is_status, no_write_fails}
+use Rattle.docon.proofs.Causes.{Wrote, causes_run, causes_refused, causes_words, causes_read, causes_write, causes_memory, complete, is_status, no_write_fails}
 use Rattle.docon.proofs.top.docon.Goals as goal
 
 pub returns-in-Ok : goal.returns-in-Ok
@@ -15,7 +15,10 @@ returns-in-Ok g c =
       input = refl;
       unread = c.report.ensures.unread;
       status = is_status asked out log answer wrote;
-      done = causes_done asked out log answer wrote;
+      done = causes_run 0 (omega arith) (λ one. omega (arith, one)) asked out log answer wrote;
+      raced = causes_run 2 (omega arith) (λ one. omega (arith, one)) asked out log answer wrote;
+      faulted = causes_run 3 (omega arith) (λ one. omega (arith, one)) asked out log answer wrote;
+      spent = causes_run 4 (omega arith) (λ one. omega (arith, one)) asked out log answer wrote;
       refused = causes_refused asked out log answer wrote;
       words = causes_words asked out log answer wrote;
       read = causes_read asked out log answer wrote (λ nameless. ap g.F.Files.faults (c.report.ensures.unread nameless));

@@ -1,0 +1,166 @@
+//! Words, values and failing writes, over files and sinks in memory.
+use crate::calls::{Sinks, WELL, call, words};
+use dc_outer::{BytesInSure, BytesOutSure, FilesSure};
+use dc_text::{DcList, DcText, NoMemory};
+use docon::run_sure;
+use std::alloc::Global;
+use std::test::Fail;
+
+/// The seven lines with this size and this value.
+fn form(alloc: Global, size: &str, value: &str) -> Result<DcText, NoMemory> {
+    let mut text = DcText::from_bytes(alloc, b"program p\ninteger :: a(")?;
+    text.append(size.as_bytes())?;
+    text.append(b"), i\ndo concurrent (i = 1:")?;
+    text.append(size.as_bytes())?;
+    text.append(b")\n  a(i) = ")?;
+    text.append(value.as_bytes())?;
+    text.append(b"\nend do\nprint *, a\nend program p\n")?;
+    Ok(text)
+}
+
+#[test]
+fn values(rt: HostRuntime) -> Result<(), Fail> {
+    let table = [
+        ("4", "i", "1 2 3 4\n"),
+        ("4", "i*i", "1 4 9 16\n"),
+        ("3", "999999999*i", "999999999 1999999998 -1294967299\n"),
+        ("3", "7 - i - 2 * i+1*i*i", "5 5 7\n"),
+        ("2", "i+i*10", "11 22\n"),
+        ("2", "10*i-i-i", "8 16\n"),
+        ("2", "000000007", "7 7\n"),
+        ("1", "999999999*999999999*999999999", "-1532731905\n"),
+    ];
+    for (size, value, out) in table {
+        let source = form(rt.alloc(), size, value)?;
+        let answer = call(rt.alloc(), source.as_bytes(), &["run", "s.f90"], &WELL)?;
+        assert_eq!(rt; answer.out.as_bytes(), out.as_bytes(), "of {value}");
+        assert_eq!(rt; (answer.log.len(), answer.status), (0, 0), "of {value}");
+    }
+    Ok(())
+}
+
+#[test]
+fn refusals(rt: HostRuntime) -> Result<(), Fail> {
+    let table = [
+        ("0", "i"),
+        ("04", "i"),
+        ("10000", "i"),
+        ("4", ""),
+        ("4", "i*"),
+        ("4", "-i"),
+        ("4", "i  *i"),
+        ("4", " i"),
+        ("4", "i "),
+        ("4", "j"),
+        ("4", "a"),
+        ("4", "1234567890"),
+        ("4", "i/2"),
+        ("4", "(i)"),
+    ];
+    for (size, value) in table {
+        let source = form(rt.alloc(), size, value)?;
+        let answer = call(rt.alloc(), source.as_bytes(), &["run", "s.f90"], &WELL)?;
+        assert_eq!(rt;
+            answer.log.as_bytes(),
+            b"refused: line 1: K0\n".as_slice(),
+            "of {value}"
+        );
+        assert_eq!(rt; (answer.out.len(), answer.status), (0, 1), "of {value}");
+    }
+    Ok(())
+}
+
+#[test]
+fn operands(rt: HostRuntime) -> Result<(), Fail> {
+    for (count, status) in [(100, 0), (101, 1)] {
+        let mut value = String::from_str(rt.alloc(), "i")?;
+        for _ in 1..count {
+            value.push_str("+i")?;
+        }
+        let source = form(rt.alloc(), "2", value.as_str())?;
+        let answer = call(rt.alloc(), source.as_bytes(), &["run", "s.f90"], &WELL)?;
+        let out = if status == 0 {
+            b"100 200\n".as_slice()
+        } else {
+            b"".as_slice()
+        };
+        assert_eq!(rt; answer.out.as_bytes(), out);
+        assert_eq!(rt; answer.status, status);
+    }
+    Ok(())
+}
+
+#[test]
+fn words_and_files(rt: HostRuntime) -> Result<(), Fail> {
+    let table: [(&[&str], &str, u8); 7] = [
+        (&["run"], "words: command\n", 5),
+        (&[], "words: command\n", 5),
+        (&["ruin", "s.f90"], "words: command\n", 5),
+        (&["run", "s.f90", "s.f90"], "words: command\n", 5),
+        (&["run", "--fast"], "words: command\n", 5),
+        (&["run", "t.f90"], "read: file\n", 6),
+        (&["run", ""], "read: file\n", 6),
+    ];
+    let source = form(rt.alloc(), "4", "i*i")?;
+    for (command, log, status) in table {
+        let answer = call(rt.alloc(), source.as_bytes(), command, &WELL)?;
+        assert_eq!(rt; answer.log.as_bytes(), log.as_bytes());
+        assert_eq!(rt; (answer.out.len(), answer.status), (0, status));
+    }
+    Ok(())
+}
+
+#[test]
+fn failing_writes(rt: HostRuntime) -> Result<(), Fail> {
+    let source = form(rt.alloc(), "4", "i*i")?;
+    let short = Sinks {
+        piece: 5,
+        failing_out: &[1],
+        failing_log: &[],
+    };
+    let answer = call(rt.alloc(), source.as_bytes(), &["run", "s.f90"], &short)?;
+    assert_eq!(rt; answer.out.as_bytes(), b"1 4 9".as_slice());
+    assert_eq!(rt; (answer.log.len(), answer.status), (0, 7));
+    let no_log = Sinks {
+        piece: 5,
+        failing_out: &[],
+        failing_log: &[2],
+    };
+    let answer = call(rt.alloc(), source.as_bytes(), &["run", "t.f90"], &no_log)?;
+    assert_eq!(rt; answer.log.as_bytes(), b"read: file".as_slice());
+    assert_eq!(rt; (answer.out.len(), answer.status), (0, 7));
+    Ok(())
+}
+
+#[test]
+fn sure_sinks(rt: HostRuntime) -> Result<(), Fail> {
+    let source = form(rt.alloc(), "4", "i*i")?;
+    let table: [(&str, &[u8], &[u8], u8); 2] = [
+        ("s.f90", b"1 4 9 16\n", b"", 0),
+        ("t.f90", b"", b"refused: line 1: K0\n", 1),
+    ];
+    for (name, wanted, logged, status) in table {
+        let mut pairs = DcList::new(rt.alloc());
+        pairs.push((
+            DcText::from_bytes(rt.alloc(), b"s.f90")?,
+            source.copy(rt.alloc())?,
+        ))?;
+        let mut files = FilesSure::new(pairs);
+        let mut input = BytesInSure::new(DcText::new(rt.alloc()), 64);
+        let mut out = BytesOutSure::new(rt.alloc(), 64, 3)?;
+        let mut log = BytesOutSure::new(rt.alloc(), 64, 3)?;
+        let command = words(rt.alloc(), &["run", name])?;
+        let answer = run_sure(
+            rt.alloc(),
+            command.as_slice(),
+            &mut files,
+            &mut input,
+            &mut out,
+            &mut log,
+        );
+        assert_eq!(rt; out.as_bytes(), wanted);
+        assert_eq!(rt; log.as_bytes(), logged);
+        assert_eq!(rt; answer, status);
+    }
+    Ok(())
+}
