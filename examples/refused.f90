@@ -1,8 +1,9 @@
 program r
   integer :: a(4), i
-  a = 0
-  do concurrent (i = 2:4)
-    a(i) = a(i-1) + 1
+  do concurrent (i = 1:4)
+    if (i > 2) then
+      a(i) = i
+    end if
   end do
   print *, a
 end program r

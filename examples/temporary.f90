@@ -1,0 +1,8 @@
+program t
+  integer :: a(3), k, i
+  do concurrent (i = 1:3)
+    k = i + 1
+    a(i) = k*k
+  end do
+  print *, a
+end program t
