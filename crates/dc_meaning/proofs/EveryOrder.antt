@@ -1,15 +1,13 @@
 -- What is said of a loop of today's form holds in every order of its iterations, wherever the loop is reached.
-use Rattle.std.proofs.Common.{◌≡◌, ℕ, suc, true, false, List, [], ◌∷◌, map, All, Option, Some, None, refl, sym, ap, ◌∙◌, subst}
+use Rattle.std.proofs.Common.{◌≡◌, ℕ, suc, true, List, [], map, All, Option, Some, None, refl, sym, ap, ◌∙◌, subst}
 use Rattle.std.specs.Prelude.{ℤ, slice_get}
 use Rattle.std.specs.List.{list_any}
-use Rattle.dc_int.specs.declared.operation.ReduceOp.{ReduceOp}
 use Rattle.dc_int.specs.declared.variable.Locality.{Locality}
-use Rattle.dc_int.specs.Entries.{Entry}
 use Rattle.dc_int.specs.Store.{Store, value_at, same_element}
 use Rattle.dc_code.specs.EveryOrder.{SaysOfOrders}
 use Rattle.dc_code.specs.Inner.{judging, parts, inner, parts_with, greatest_depth}
 use Rattle.dc_code.specs.Laws.{HasPlainBlocks, TouchesOwn, HoldsOwn, IsOwn, may_touch}
-use Rattle.dc_code.specs.Loops.{Form, Copies, Passage, alone}
+use Rattle.dc_code.specs.Loops.{Form, Copies, Passage}
 use Rattle.dc_code.specs.Passages.{Entering}
 use Rattle.dc_code.specs.Troubles.{Slots, Computing}
 use Rattle.dc_code.proofs.EveryOrder.{says-of-orders}
@@ -19,10 +17,8 @@ use Rattle.dc_tree.specs.Blocks.{Line, Items, Source}
 use Rattle.dc_tree.specs.Entities.{Scope, entity, main_scope}
 use Rattle.dc_tree.specs.SmallPrograms.{is_small_program, is_small_block}
 use Rattle.dc_meaning.specs.Alone.{nth_loop}
-use Rattle.dc_meaning.specs.Concurrent.{Concurrent, Surroundings, block_scope, index_slots, locals_of, fresh_locals}
+use Rattle.dc_meaning.specs.Concurrent.{Concurrent, Surroundings, block_scope}
 use Rattle.dc_meaning.specs.Execution.{exec_all}
-use Rattle.dc_meaning.specs.Headers.{form_of}
-use Rattle.dc_meaning.specs.Numbering.{no_loop}
 use Rattle.dc_meaning.specs.Plainly.{plain}
 use Rattle.dc_meaning.specs.Programs.{surroundings, program_forms}
 use Rattle.dc_meaning.proofs.Looping.{small-concurrent, IsLoop, LoopAt, scope-is, copies-form}

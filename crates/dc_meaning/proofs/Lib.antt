@@ -24,6 +24,7 @@ pub mod Scanning
 pub mod Shown
 pub mod Sources
 pub mod Storing
+pub mod TakingBack
 pub mod Touching
 pub mod Valuing
 pub mod Variables

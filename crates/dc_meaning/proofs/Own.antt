@@ -1,6 +1,6 @@
 -- What a block of today's form does is to elements of its variables, within their bounds, without a pause and
 -- without a contribution.
-use Rattle.std.proofs.Common.{◌≡◌, ◌<◌, ◌≤◌, ◌+◌, ◌-◌, ◌*◌, ℕ, zero, suc, Bool, true, false, ◌&&◌, ◌||◌, List, [], ◌∷◌, All, Option, Some, None, refl, sym, ap, ◌∙◌, subst, arith}
+use Rattle.std.proofs.Common.{◌≡◌, ◌<◌, ◌≤◌, ◌+◌, ◌-◌, ◌*◌, ℕ, zero, suc, Bool, true, false, ◌&&◌, ◌||◌, List, [], ◌∷◌, All, Option, Some, None, refl, sym, subst, arith}
 use Rattle.std.proofs.lemmas.Bool.{and_parts, false≢true, leb-true}
 use Rattle.std.proofs.lemmas.Int.{ints}
 use Rattle.std.proofs.lemmas.List.Elements.{All-nil, All-cons}
@@ -23,10 +23,10 @@ use Rattle.dc_code.specs.Troubles.{Slots}
 use Rattle.dc_tree.specs.declared.token.Suffix.{Suffix}
 use Rattle.dc_tree.specs.Blocks as blocks
 use Rattle.dc_tree.specs.Blocks.{Line, Source, Items, none, and_then, plain, branch, select}
-use Rattle.dc_tree.specs.Entities.{Entity, outside, slots, dummy, constant, function, subroutine, reduction, nothing, Scope, entity, main_scope}
+use Rattle.dc_tree.specs.Entities.{Entity, outside, slots, dummy, constant, function, subroutine, reduction, nothing, Scope, entity}
 use Rattle.dc_tree.specs.Intrinsics.{intrinsic}
 use Rattle.dc_tree.specs.Operating.{joined_by}
-use Rattle.dc_tree.specs.SmallPrograms.{with_index, is_small_program, is_outside_scalar, is_vector, is_sum_or_product, is_small, is_small_subscript, is_small_target, is_small_assignment, is_small_block}
+use Rattle.dc_tree.specs.SmallPrograms.{is_outside_scalar, is_vector, is_sum_or_product, is_small, is_small_subscript, is_small_target, is_small_assignment, is_small_block}
 use Rattle.dc_tree.specs.Statements as statements
 use Rattle.dc_tree.specs.Statements.{Name, Target, Statement}
 use Rattle.dc_tree.specs.Syntax.{Tree, number, truth, chars, name, refer, paren, unary, binary, no_args, arg}

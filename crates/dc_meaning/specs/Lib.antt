@@ -19,6 +19,7 @@ pub mod Programs
 pub mod Showing
 pub mod Standing
 pub mod Storing
+pub mod TakingBack
 pub mod Telling
 pub mod Values
 pub mod Views

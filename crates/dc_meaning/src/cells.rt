@@ -1,5 +1,5 @@
 ghost use Rattle.std.specs.Prelude.{◌≡◌, [], map, slice_get, Some, OnOk, IfOk, IsTrue};
-ghost use Rattle.dc_int.specs.Entries.{Reads, Defines, accesses_of, last_states, contributions_of};
+ghost use Rattle.dc_int.specs.Entries.{Reads, Defines, accesses_of, last_states, contributions_of, store_after};
 ghost use Rattle.dc_int.specs.Store.{value_at, put_at, with_cell, number_in};
 ghost use Rattle.dc_meaning.specs.Marks as judge;
 ghost use Rattle.dc_meaning.specs.MarkViews.{marks_of, FitStore};
@@ -8,6 +8,7 @@ ghost use Rattle.dc_meaning.specs.Views.{variable_of, entry_of, store_with, stat
 ghost use Rattle.dc_meaning.specs.Programs.{first_store};
 ghost use Rattle.dc_tree.specs.SmallPrograms.{are_small_symbols};
 
+use crate::back::take_back;
 use crate::beginning::undefined_variables;
 use crate::closing::forget_touched_twice;
 use crate::listing::{accesses, contributions, states, touches};
@@ -98,6 +99,20 @@ impl Cells {
         })
     }
 
+    /// Takes back what was done so far, from where the elements were as in these cells, and forgets it. It
+    /// takes no memory.
+    pub(crate) fn take_back(&mut self, opening: &Cells)
+        requires { (self.old).store ≡ store_after (self.old).entries (opening.now).store }
+        ensures { self.new ≡ record { store = (opening.now).store; entries = [] } }
+    {
+        take_back(
+            &mut self.variables,
+            self.notes.as_slice(),
+            opening.variables.as_slice(),
+        );
+        self.notes.clear();
+    }
+
     /// The states of all elements, in store order. `None` is undefined.
     pub(crate) fn states(&self, alloc: Global) -> Result<DcList<Option<i64>>, NoMemory>
         ensures { IfOk result (λ made. made ≡ states_in (self.now).store) }
@@ -174,7 +189,7 @@ fn cell_in(variable: &Variable, position: usize) -> Option<i64>
     }
 }
 
-fn value_in(variables: &[Variable], element: ElementId) -> Option<i64>
+pub(crate) fn value_in(variables: &[Variable], element: ElementId) -> Option<i64>
     ensures { result ≡ value_at (map variable_of variables.now) element }
 {
     match variables.get(element.variable as usize) {

@@ -51,22 +51,24 @@ fn iterate(task: Task<'_>, cells: &mut Cells, value: i64) -> Result<Option<(Why,
     }
 }
 
-/// Runs one iteration alone, and marks what it does.
+/// Runs one iteration alone over a copy of the opening cells, marks what it does, and takes it back.
 fn mark_one(
-    alloc: Global,
     task: Task<'_>,
     opening: &Cells,
+    cells: &mut Cells,
     iteration: u32,
     value: i64,
     rows: &mut Vec<Vec<Mark>>,
 ) -> Result<Option<(Why, u32)>, NoMemory>
     ghost parts: { Parts }
-    requires { IsTask parts task }
-    ensures { IfOk result (λ met. IsOne (alone parts (opening.now).store (combination value)) iteration (marks_of rows.old.items) (marks_of rows.new.items) met) }
+    requires task { IsTask parts task }
+    requires copy { (cells.old).store ≡ (opening.now).store }
+    ensures one { IfOk result (λ met. IsOne (alone parts (opening.now).store (combination value)) iteration (marks_of rows.old.items) (marks_of rows.new.items) met) }
+    ensures back { IfOk result (λ met. (cells.new).store ≡ (opening.now).store) }
 {
-    let mut cells = opening.fresh(alloc)?;
-    let met = iterate(task, &mut cells, value)?;
+    let met = iterate(task, cells, value)?;
     mark_notes(rows, iteration, cells.notes());
+    cells.take_back(opening);
     Ok(met)
 }
 
@@ -83,9 +85,10 @@ pub(crate) fn mark_alone(
     requires few { length active.now ≤ 4194304 }
     ensures { IfOk result (λ bad. IsMarked parts (opening.now).store active.now (marks_of rows.old.items) (marks_of rows.new.items) bad) }
 {
+    let mut cells = opening.fresh(alloc)?;
     let mut iteration = 0;
     for value in active {
-        if let Some((why, line)) = mark_one(alloc, task, opening, iteration, *value, rows)? {
+        if let Some((why, line)) = mark_one(task, opening, &mut cells, iteration, *value, rows)? {
             return Ok(Some(Bad {
                 iteration,
                 why,

@@ -4,6 +4,7 @@
 mod alone_out;
 mod assign;
 mod assignment;
+mod back;
 mod beginning;
 mod block;
 mod cells;

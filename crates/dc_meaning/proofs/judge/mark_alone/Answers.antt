@@ -19,7 +19,7 @@ returns-in-Some g c =
     let after = marks_of c.mark_one.new.rows.items in
     let counted = c.loop-value.invariant.0 in
     let one : IsOne (alone g.parts store (combination given)) n before after (Some (c.in-Some.why, c.in-Some.line)) =
-    subst (λ (m : Option (Why × ℕ)). IsOne (alone g.parts store (combination given)) n before after m) c.in-Some.is c.in_ok-why.ensures in (
+    subst (λ (m : Option (Why × ℕ)). IsOne (alone g.parts store (combination given)) n before after m) c.in-Some.is c.in_ok-why.ensures.one in (
       z,
       sym c.loop-value.invariant.2 ∙ left-bad g.parts store active i given n before after c.in-Some.why c.in-Some.line c.loop-value-test.true same one,
       i,
@@ -40,7 +40,7 @@ loop-value-preserved g c =
     let after = marks_of c.mark_one.new.rows.items in
     let none : c.in_ok-why.field-0 ≡ None = search rules in
     let one : IsOne (alone g.parts store (combination given)) n before after None =
-    subst (λ (m : Option (Why × ℕ)). IsOne (alone g.parts store (combination given)) n before after m) none c.in_ok-why.ensures in
+    subst (λ (m : Option (Why × ℕ)). IsOne (alone g.parts store (combination given)) n before after m) none c.in_ok-why.ensures.one in
     let goes = left-good g.parts store active i given n before after c.loop-value-test.true same one in
     let counted = c.loop-value.invariant.0 in
-    (omega (arith, counted), goes.marks ∙ c.loop-value.invariant.1, goes.bad ∙ c.loop-value.invariant.2)
+    (omega (arith, counted), goes.marks ∙ c.loop-value.invariant.1, goes.bad ∙ c.loop-value.invariant.2, c.in_ok-why.ensures.back)

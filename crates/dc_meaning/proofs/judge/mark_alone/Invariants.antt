@@ -12,3 +12,4 @@ invariant-loop-value g l =
     (l.iteration ≡ l.value-index)
     × (marked_runs l.iteration (runs_of g.parts l.opening.store (drop l.value-index l.active)) (marks_of l.rows.items) ≡ marked_runs 0 (runs_of g.parts l.opening.store l.active) (marks_of l.fn.rows.items))
     × (bad_of g.parts l.opening.store (drop l.value-index l.active) ≡ bad_of g.parts l.opening.store l.active)
+    × (l.cells.store ≡ l.opening.store)
