@@ -1,0 +1,6 @@
+use Rattle.std.proofs.Common.{◌≡◌, ◌+◌, drop}
+use Rattle.dc_lexer.specs.Bytes.{is_digit, span}
+use Rattle.dc_lexer.proofs.bytes.digits_length.Given as goal
+
+abbrev pub invariant-loop-byte : goal.invariant-loop-byte
+invariant-loop-byte l = (l.count ≡ l.byte-index) × (l.count + span is_digit (drop l.byte-index l.bytes) ≡ span is_digit l.bytes)

@@ -1,0 +1,7 @@
+pub mod Answers
+pub mod Bytes
+pub mod Lexemes
+pub mod Progress
+pub mod Readings
+pub mod Scan
+pub mod Tokens
