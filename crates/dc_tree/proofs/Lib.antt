@@ -3,6 +3,9 @@ pub mod BlocksBack
 mod Examples
 pub mod Names
 pub mod Places
+pub mod Ranks
+pub mod ReadingComplete
+pub mod ReadingSound
 mod StatementExamples
 pub mod StatementsBack
 pub mod Views

@@ -9,6 +9,7 @@ pub mod Names
 pub mod Operating
 pub mod Places
 pub mod Ranking
+pub mod Reader
 pub mod SmallPrograms
 pub mod Spelling
 pub mod Statements

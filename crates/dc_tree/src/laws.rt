@@ -1,7 +1,10 @@
 //! Laws of the definitions, each the clause of a function that does nothing.
 
+ghost use Rattle.std.specs.Prelude.{◌≡◌};
 ghost use Rattle.dc_tree.specs.Back.{IsToldApart};
+ghost use Rattle.dc_tree.specs.Grammar.{Ranked, spell};
 ghost use Rattle.dc_tree.specs.StatementsBack.{IsProgramToldApart, IsStatementToldApart};
+ghost use Rattle.dc_tree.specs.Syntax.{Tree};
 
 use crate::expr::Expr;
 use crate::program::Program;
@@ -20,4 +23,9 @@ pub fn statements_are_told_apart(a: &Stmt, b: &Stmt)
 /// Two programs of the code that definitions see as one are one.
 pub fn programs_are_told_apart(a: &Program, b: &Program)
     ensures { IsProgramToldApart a.now b.now }
+{}
+
+/// Tokens spell one expression at most.
+pub fn tokens_spell_one_expression()
+    ensures { (one other : Tree) → Ranked one → Ranked other → spell one ≡ spell other → one ≡ other }
 {}

@@ -12,7 +12,10 @@ mod token;
 
 pub use expr::{Arg, Expr};
 pub use fail::{Fail, Refusal};
-pub use laws::{programs_are_told_apart, statements_are_told_apart, trees_are_told_apart};
+pub use laws::{
+    programs_are_told_apart, statements_are_told_apart, tokens_spell_one_expression,
+    trees_are_told_apart,
+};
 pub use logical_lines::Logical;
 pub use program::{Block, Lined, Node, Part, Procedure, Program};
 pub use stmt::{
