@@ -1,0 +1,9 @@
+pub mod Breaks
+pub mod Cutting
+pub mod Ends
+pub mod Examples
+pub mod First
+pub mod Laws
+pub mod Pieces
+pub mod Signs
+pub mod Steps

@@ -1,0 +1,6 @@
+pub mod Answer
+pub mod Joined
+pub mod Line
+pub mod Reading
+pub mod Rules
+pub mod TextLines
