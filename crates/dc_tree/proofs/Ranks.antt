@@ -1,5 +1,5 @@
 -- How the ranks of the operators stand to each other.
-use Rattle.std.proofs.Common.{ℕ, ◌<◌, ◌≤◌, arith}
+use Rattle.std.proofs.Common.{◌<◌, ◌≤◌, arith}
 use Rattle.dc_tree.specs.declared.token.Mark.{Mark}
 use Rattle.dc_tree.specs.Grammar.{level, left_rank, right_rank}
 

@@ -1,13 +1,13 @@
 -- The reader finds each tree that the tokens spell.
-use Rattle.std.proofs.Common.{◌≡◌, ◌<◌, ◌≤◌, ℕ, Bool, true, false, List, [], ◌∷◌, ◌++◌, Option, Some, refl, sym, ap, ◌∙◌, arith, append_assoc, append-nil}
+use Rattle.std.proofs.Common.{◌≡◌, ◌≤◌, ℕ, Bool, true, false, List, [], ◌∷◌, ◌++◌, Some, refl, sym, ap, ◌∙◌, arith, append_assoc, append-nil}
 use Rattle.std.specs.Prelude.{codes}
 use Rattle.std.proofs.lemmas.Bool.{le-leb, lt-leb, false≢true}
 use Rattle.dc_tree.specs.declared.token.Mark.{Mark}
 use Rattle.dc_tree.specs.declared.token.Token.{Token}
 use Rattle.dc_tree.specs.Names.{is_name}
 use Rattle.dc_tree.specs.Syntax.{Tree, Args, number, truth, chars, name, refer, paren, unary, binary, no_args, arg, args_from}
-use Rattle.dc_tree.specs.Grammar.{is_binary, is_prefix, level, left_rank, right_rank, rank, Ranked, RankedArgs, key, spell, spell_args, spell_more}
-use Rattle.dc_tree.specs.Reader.{Frame, State, in_bracket, in_reference, behind_sign, behind_left, failed, start, called, named, whole, need, join, operated, closed, followed_by_mark, ended, after_name, step, run, finish, settled, Listed, trees, reading}
+use Rattle.dc_tree.specs.Grammar.{is_binary, is_prefix, level, left_rank, rank, Ranked, RankedArgs, key, spell, spell_args, spell_more}
+use Rattle.dc_tree.specs.Reader.{Frame, State, in_bracket, in_reference, behind_sign, behind_left, start, called, named, whole, need, join, operated, followed_by_mark, ended, after_name, step, run, finish, settled, Listed, trees, reading}
 use Rattle.dc_tree.proofs.Ranks.{level-left, level-right, crosses}
 
 abbrev Frames : Type 0

@@ -1,5 +1,5 @@
 -- What the reader finds is a ranked tree that spells the tokens.
-use Rattle.std.proofs.Common.{◌≡◌, ◌≤◌, ℕ, Bool, true, false, List, [], ◌∷◌, ◌++◌, Option, Some, None, refl, sym, ap, subst, ◌∙◌, arith, inl, inr, append_assoc, append-nil}
+use Rattle.std.proofs.Common.{◌≡◌, ◌≤◌, ℕ, Bool, true, false, List, [], ◌∷◌, ◌++◌, Some, refl, sym, ap, subst, ◌∙◌, arith, inl, inr, append_assoc, append-nil}
 use Rattle.std.specs.Prelude.{codes, nat_le, IsTrue}
 use Rattle.std.specs.Str.{bytes_eq}
 use Rattle.std.proofs.lemmas.Bool.{cases_Bool, leb-true}
@@ -7,8 +7,8 @@ use Rattle.std.proofs.lemmas.Slice.Eq.{bytes_eq-Decides}
 use Rattle.dc_tree.specs.declared.token.Mark.{Mark}
 use Rattle.dc_tree.specs.declared.token.Token.{Token}
 use Rattle.dc_tree.specs.Names.{is_name}
-use Rattle.dc_tree.specs.Syntax.{Tree, Args, number, truth, chars, name, refer, paren, unary, binary, no_args, arg, args_from}
-use Rattle.dc_tree.specs.Grammar.{is_binary, is_prefix, level, left_rank, right_rank, rank, Ranked, RankedArgs, key, spell, spell_args, spell_more}
+use Rattle.dc_tree.specs.Syntax.{Tree, name, unary, binary, args_from}
+use Rattle.dc_tree.specs.Grammar.{is_binary, is_prefix, level, left_rank, rank, Ranked, RankedArgs, key, spell, spell_args, spell_more}
 use Rattle.dc_tree.specs.Reader.{Frame, State, in_bracket, in_reference, behind_sign, behind_left, failed, start, called, named, whole, need, join, prefixed, opened, started, operated, closed, separated, ended, followed, keyed_by, after_name, after_call, step, run, alone, finish, Listed, trees, reading}
 use Rattle.dc_tree.proofs.Ranks.{left-primary, right-primary}
 

@@ -1,6 +1,7 @@
 -- A reader of expressions that takes one token at a time. It is a device for proofs and for the
--- code: no clause on expressions speaks of it. What it builds is given by a `Building`, so that one
--- reader serves trees of every depth, and trees whose depth has a limit. This project's own.
+-- code: `Ranked` and `spell` say which tokens are an expression, and the reader finds just those
+-- trees. What it builds is given by a `Building`, so that one reader serves trees of every depth, and
+-- trees whose depth has a limit. This project's own.
 use Rattle.std.specs.Prelude.{ℕ, Bool, true, false, nat_le, if◌then◌else◌, List, [], ◌∷◌, ◌++◌, Option, Some, None, codes}
 use Rattle.std.specs.Str.{bytes_eq}
 use Rattle.dc_tree.specs.declared.token.Mark.{Mark}
