@@ -304,7 +304,11 @@ fn put_verdict(
 }
 
 /// The line of the log that tells how a run ended, with its line feed; empty where it came to its end.
-pub(crate) fn ending_line(alloc: Global, symbols: &Symbols, ending: &Ending) -> Result<DcText, NoMemory>
+pub(crate) fn ending_line(
+    alloc: Global,
+    symbols: &Symbols,
+    ending: &Ending,
+) -> Result<DcText, NoMemory>
     requires { NamesOwn symbols.now ending.now }
     ensures { IfOk result (λ made. made ≡ report_line (outside_names symbols.now) (ending_of symbols.now ending.now)) }
 {

@@ -40,11 +40,7 @@ pub fn run<G: Gate + Sync>(
 
 /// The line of the log that tells how a run of the source ended, with its line feed; empty where it came to
 /// its end.
-pub fn report_line(
-    alloc: Global,
-    accepted: &Accepted,
-    ending: &Ending,
-) -> Result<DcText, NoMemory>
+pub fn report_line(alloc: Global, accepted: &Accepted, ending: &Ending) -> Result<DcText, NoMemory>
     requires { NamesOwn (accepted.now).symbols ending.now }
     ensures { IfOk result (λ line. line ≡ lines.report_line (lines.outside_names (accepted.now).symbols) (ending_of (accepted.now).symbols ending.now)) }
 {
