@@ -114,7 +114,7 @@ marks-forgotten m line v (row ∷ marks) (variable ∷ shape) store are = joined
     twice x = is_twice (m x)
 
     here : IsRow m v 0 row variable.cells
-    here = subst (λ w. IsRow m w 0 row variable.cells) (omega arith) (are.rows 0 row variable refl refl)
+    here = subst (λ number. IsRow m number 0 row variable.cells) (omega arith) (are.rows 0 row variable refl refl)
 
     shorter : length marks ≡ length shape
     shorter = let long = are.long in omega (arith, long)

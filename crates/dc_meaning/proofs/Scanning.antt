@@ -66,7 +66,7 @@ marks-scanned m v (row ∷ marks) [] are = absurd (suc-zero are.long)
 marks-scanned m v (row ∷ marks) (variable ∷ store) are = joined (marks-scanned m (suc v) marks store further)
   where
     here : IsRow m v 0 row variable.cells
-    here = subst (λ w. IsRow m w 0 row variable.cells) (omega arith) (are.rows 0 row variable refl refl)
+    here = subst (λ number. IsRow m number 0 row variable.cells) (omega arith) (are.rows 0 row variable refl refl)
 
     first : named_in_row v 0 row ≡ scan (λ x. named_by x (m x)) (cells_from v 0 variable.cells)
     first = row-scanned m v 0 row variable.cells here
