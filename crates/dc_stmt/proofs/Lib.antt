@@ -1,0 +1,17 @@
+pub mod CutLaws
+pub mod Clear
+pub mod WordLaws
+pub mod CutSteps
+pub mod Judged
+pub mod Lists
+pub mod Found
+pub mod PartsComplete
+pub mod DeedsComplete
+pub mod HeadingsComplete
+pub mod StatementsComplete
+pub mod PartsSound
+pub mod DeedsSound
+pub mod HeadingsSound
+pub mod StatementsSound
+pub mod Answering
+mod Examples

@@ -1,0 +1,10 @@
+use Rattle.std.proofs.Common.{◌≡◌, [], map, drop}
+use Rattle.dc_tree.specs.Statements.{case_range}
+use Rattle.dc_stmt.specs.declared.reading.Reading.{Reading}
+use Rattle.dc_stmt.specs.Parts.{one_case}
+use Rattle.dc_stmt.specs.Judging.{seen, gathered}
+use Rattle.dc_stmt.proofs.ranges.case_items.Given as goal
+
+abbrev pub invariant-loop-slice : goal.invariant-loop-slice
+invariant-loop-slice l =
+    gathered (seen (map case_range) l.so_far) one_case (map (λ slice. slice.now) (drop l.slice-index l.slices)) ≡ gathered (Reading.Whole []) one_case (map (λ slice. slice.now) l.slices)
