@@ -21,10 +21,6 @@ pub judged-plain : {A : Type 0} (a : A) → judged (Some (a, 0)) ≡ Reading.Who
 unfolding judged
 judged-plain a = refl
 
-pub judged-leaf : {A : Type 0} (a : A) → judged (Some (a, 1)) ≡ Reading.Whole a
-unfolding judged
-judged-leaf a = refl
-
 pub judged-mapped : {A B : Type 0} (f : A → B) (found : Found A) → judged (mapped f found) ≡ seen f (judged found)
 unfolding judged
 judged-mapped f None = refl

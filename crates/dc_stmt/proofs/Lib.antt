@@ -1,9 +1,7 @@
 pub mod CutLaws
 pub mod Clear
 pub mod WordLaws
-pub mod CutSteps
 pub mod Judged
-pub mod Lists
 pub mod Found
 pub mod PartsComplete
 pub mod DeedsComplete

@@ -17,9 +17,6 @@ bare deed [] = plainly deed
 bare deed tokens = None
 
 -- brackets that may be absent, with any number of items in them
-abbrev pub some_arguments : {A : Type 0} → (List Token → Found A) → List Token → Found (Bool × List A)
-some_arguments part tokens = mapped (λ values. (true, values)) (any_list part tokens)
-
 abbrev pub arguments : {A : Type 0} → (List Token → Found A) → List Token → Found (Bool × List A)
 arguments part [] = plainly (false, [])
 arguments part (token ∷ tokens) = mapped (λ values. (true, values)) (given (in_brackets (token ∷ tokens)) (any_list part))
@@ -37,71 +34,48 @@ printed (Token.Mark Mark.Times ∷ tokens) = mapped (λ values. print false valu
 printed tokens = None
 
 -- what stands behind `(*, *)`
-abbrev pub past_closing : List Token → Option (List Token)
-past_closing (Token.Mark Mark.Close ∷ tokens) = Some tokens
-past_closing tokens = None
-
-abbrev pub past_comma : List Token → Option (List Token)
-past_comma (Token.Mark Mark.Comma ∷ Token.Mark Mark.Times ∷ tokens) = past_closing tokens
-past_comma tokens = None
-
 abbrev pub past_stars : List Token → Option (List Token)
-past_stars (Token.Mark Mark.Open ∷ Token.Mark Mark.Times ∷ tokens) = past_comma tokens
+past_stars (Token.Mark Mark.Open ∷ Token.Mark Mark.Times ∷ Token.Mark Mark.Comma ∷ Token.Mark Mark.Times ∷ Token.Mark Mark.Close ∷ tokens) = Some tokens
 past_stars tokens = None
 
 abbrev pub written : List Token → Found Deed
 written tokens = mapped (λ values. print true values) (given (past_stars tokens) (any_list item))
 
-abbrev pub taken_behind : List Token → Found Deed
-taken_behind tokens = mapped (λ places. read true places) (given (past_stars tokens) (any_list target))
-
 abbrev pub taken : List Token → Found Deed
 taken (Token.Mark Mark.Times ∷ tokens) = mapped (λ places. read false places) (followed_list target tokens)
-taken tokens = taken_behind tokens
+taken tokens = mapped (λ places. read true places) (given (past_stars tokens) (any_list target))
 
 -- ---- assignments
 
 abbrev pub filled : Name → List Token → Found Deed
 filled text tokens = mapped (λ values. fill text values) (given (in_list tokens) (list expr))
 
-abbrev pub assign_parts : List Token → List Token → Found Deed
-assign_parts left right = mapped (λ parts. assign parts.0 parts.1) (both (target left) (expr right))
-
 abbrev pub assigned_from : List Token → List Token → Found Deed
-assigned_from left (mark ∷ right) = assign_parts left right
+assigned_from left (mark ∷ right) = mapped (λ parts. assign parts.0 parts.1) (both (target left) (expr right))
 assigned_from left [] = None
 
 abbrev pub assigned : List Token → Found Deed
 assigned tokens = assigned_from (before Stop.Equals 0 tokens) (from Stop.Equals 0 tokens)
 
-abbrev pub fill_named : Name → List Token → Found Deed
-fill_named text tokens = if is_name text then filled text tokens else None
-
--- an assignment, of a list or of one value; `whole` are all its tokens
-abbrev pub defined_by : Name → List Token → List Token → Found Deed
-defined_by text (Token.Mark Mark.Equals ∷ Token.Mark Mark.OpenList ∷ tokens) whole = fill_named text (Token.Mark Mark.OpenList ∷ tokens)
-defined_by text tokens whole = assigned whole
-
+-- an assignment, of a list or of one value
 abbrev pub defined : Name → List Token → Found Deed
-defined text tokens = defined_by text tokens (Token.Word text ∷ tokens)
+defined text (Token.Mark Mark.Equals ∷ Token.Mark Mark.OpenList ∷ tokens) = if is_name text then filled text (Token.Mark Mark.OpenList ∷ tokens) else None
+defined text tokens = assigned (Token.Word text ∷ tokens)
 
 -- ---- actions
 
-abbrev pub deed_by : Option Keyword → Name → List Token → List Token → Found Deed
-deed_by (Some Keyword.Call) text tokens whole = called tokens
-deed_by (Some Keyword.Cycle) text tokens whole = mapped (λ name. cycle name) (label tokens)
-deed_by (Some Keyword.Exit) text tokens whole = mapped (λ name. exit name) (label tokens)
-deed_by (Some Keyword.Return) text tokens whole = bare return tokens
-deed_by (Some Keyword.Continue) text tokens whole = bare continue tokens
-deed_by (Some Keyword.Stop) text tokens whole = bare stop tokens
-deed_by (Some Keyword.Error) text tokens whole = errs tokens
-deed_by (Some Keyword.Print) text tokens whole = printed tokens
-deed_by (Some Keyword.Write) text tokens whole = written tokens
-deed_by (Some Keyword.Read) text tokens whole = taken tokens
-deed_by word text tokens whole = defined_by text tokens whole
-
 abbrev pub deed_named : Option Keyword → Name → List Token → Found Deed
-deed_named word text tokens = deed_by word text tokens (Token.Word text ∷ tokens)
+deed_named (Some Keyword.Call) text tokens = called tokens
+deed_named (Some Keyword.Cycle) text tokens = mapped (λ name. cycle name) (label tokens)
+deed_named (Some Keyword.Exit) text tokens = mapped (λ name. exit name) (label tokens)
+deed_named (Some Keyword.Return) text tokens = bare return tokens
+deed_named (Some Keyword.Continue) text tokens = bare continue tokens
+deed_named (Some Keyword.Stop) text tokens = bare stop tokens
+deed_named (Some Keyword.Error) text tokens = errs tokens
+deed_named (Some Keyword.Print) text tokens = printed tokens
+deed_named (Some Keyword.Write) text tokens = written tokens
+deed_named (Some Keyword.Read) text tokens = taken tokens
+deed_named word text tokens = defined text tokens
 
 abbrev pub action : List Token → Found Deed
 action (Token.Word text ∷ tokens) = deed_named (keyword text) text tokens

@@ -52,13 +52,10 @@ ended_named (Some Keyword.Function) tokens = mapped (λ text. end_line (Some uni
 ended_named (Some Keyword.Subroutine) tokens = mapped (λ text. end_line (Some units.Unit.Subroutine) text) (label tokens)
 ended_named word tokens = None
 
-abbrev pub ended_by : List Token → Found Statement
-ended_by (Token.Word text ∷ tokens) = ended_named (keyword text) tokens
-ended_by tokens = None
-
 abbrev pub ended : List Token → Found Statement
 ended [] = plainly (end_line None None)
-ended (token ∷ tokens) = ended_by (token ∷ tokens)
+ended (Token.Word text ∷ tokens) = ended_named (keyword text) tokens
+ended tokens = None
 
 -- ---- IF and SELECT
 
@@ -76,29 +73,20 @@ branched tokens = given (bracket tokens) tested_by
 abbrev pub else_tested : List Token × List Token → Found Statement
 else_tested parts = if is_then parts.1 then mapped (λ e. else_if e) (expr parts.0) else None
 
-abbrev pub else_branched : List Token → Found Statement
-else_branched tokens = given (bracket tokens) else_tested
-
 abbrev pub otherwise : List Token → Found Statement
 otherwise [] = plainly else_line
-otherwise (word ∷ tokens) = if is Keyword.If word then else_branched tokens else None
-
-abbrev pub select_inside : List Token → Found Statement
-select_inside tokens = mapped (λ e. select_case e) (given (in_brackets tokens) expr)
+otherwise (word ∷ tokens) = if is Keyword.If word then given (bracket tokens) else_tested else None
 
 abbrev pub selected : List Token → Found Statement
-selected (word ∷ tokens) = if is Keyword.Case word then select_inside tokens else None
+selected (word ∷ tokens) = if is Keyword.Case word then mapped (λ e. select_case e) (given (in_brackets tokens) expr) else None
 selected [] = None
 
 abbrev pub case_word : List Token → Found Statement
 case_word (word ∷ []) = if is Keyword.Default word then plainly case_default else None
 case_word tokens = None
 
-abbrev pub case_inside : List Token → Found Statement
-case_inside tokens = mapped (λ ranges. case ranges) (given (in_brackets tokens) (list one_case))
-
 abbrev pub cased : List Token → Found Statement
-cased (Token.Mark Mark.Open ∷ tokens) = case_inside (Token.Mark Mark.Open ∷ tokens)
+cased (Token.Mark Mark.Open ∷ tokens) = mapped (λ ranges. case ranges) (given (in_brackets (Token.Mark Mark.Open ∷ tokens)) (list one_case))
 cased tokens = case_word tokens
 
 -- ---- DO

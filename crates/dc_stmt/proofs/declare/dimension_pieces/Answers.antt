@@ -1,6 +1,0 @@
-use Rattle.std.proofs.lemmas.List.{length-map}
-use Rattle.dc_stmt.proofs.Lists.{dimension-empty}
-use Rattle.dc_stmt.proofs.declare.dimension_pieces.Goals as goal
-
-pub returns-in_default : goal.returns-in_default
-returns-in_default c = dimension-empty _ (simp length-map c.in_default.len_below)

@@ -1,5 +1,0 @@
-use Rattle.dc_stmt.proofs.Lists.{case-none}
-use Rattle.dc_stmt.proofs.ranges.case_pieces.Goals as goal
-
-pub returns-in-empty : goal.returns-in-empty
-returns-in-empty c = case-none _ c.args.slices.now c.in-empty.len_below
