@@ -1,5 +1,5 @@
 -- What is said at the visits of a run holds in every order of the iterations.
-use Rattle.std.proofs.Common.{◌≡◌, ℕ, Bool, true, false, List, [], ◌∷◌, ◌++◌, length, All, Option, Some, None, Result, Ok, Err, refl}
+use Rattle.std.proofs.Common.{◌≡◌, ℕ, Bool, true, false, List, [], ◌∷◌, All, Some, None, Result, Ok, Err, refl}
 use Rattle.std.proofs.lemmas.List.Elements.{All-nil, All-cons}
 use Rattle.std.specs.Prelude.{ℤ, nat_le, map, if◌then◌else◌}
 use Rattle.dc_int.specs.declared.access.ElementId.{ElementId}
@@ -10,7 +10,6 @@ use Rattle.dc_code.specs.Computation.{give, fail, read, define, undefine, contri
 use Rattle.dc_code.specs.Inner.{judging}
 use Rattle.dc_code.specs.Troubles.{Computing, Slots, Event, write_line, take_value, take_elements, end_reading, enter_loop, stop}
 use Rattle.dc_code.specs.Verdicts.{Verdict, go_on, at_header, in_iteration, race}
-use Rattle.dc_code.specs.Visits.{Visited}
 use Rattle.dc_lists.specs.Input as input
 use Rattle.dc_lists.specs.Output.{line_of}
 use Rattle.dc_tree.specs.declared.symbols.Symbol.{Symbol}

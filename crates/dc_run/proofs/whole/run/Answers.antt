@@ -1,11 +1,11 @@
-use Rattle.std.proofs.Common.{◌≡◌, List, true, subst, ◌∙◌}
+use Rattle.std.proofs.Common.{List, subst, ◌∙◌}
 use Rattle.dc_tree.specs.declared.program.Program.{Program}
 use Rattle.dc_tree.specs.declared.symbols.Symbol.{Symbol}
 use Rattle.dc_tree.specs.Blocks.{source_of}
 use Rattle.dc_tree.specs.SmallPrograms.{is_small_program}
 use Rattle.dc_meaning.proofs.Passing.{if-ok}
 use Rattle.dc_run.specs.declared.running.RunOut.{RunOut}
-use Rattle.dc_run.specs.Answered.{IsRunOf, NamesOwn}
+use Rattle.dc_run.specs.Answered.{IsRunOf}
 use Rattle.dc_run.proofs.VisitOrders.{visits-hold}
 use Rattle.dc_run.proofs.whole.run.Goals as goal
 
