@@ -1,0 +1,6 @@
+pub mod Answer
+pub mod Drafts
+pub mod Judging
+pub mod Nested
+pub mod Places
+pub mod Rules

@@ -1,0 +1,21 @@
+//! Nesting: from the statements of a text, each with its line, to the tree of its program.
+#![tactic(auto)]
+
+mod allowing;
+mod breaking;
+mod building;
+mod draft;
+mod form;
+mod judging;
+mod law;
+mod moving;
+mod nesting;
+mod place;
+mod rule;
+mod stack;
+
+pub use law::{a_list_nests_to_one_program, an_unbroken_list_nests, the_first_refusal_is_one};
+pub use nesting::nest;
+
+#[cfg(test)]
+mod tests;

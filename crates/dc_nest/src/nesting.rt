@@ -1,0 +1,52 @@
+//! From a list of statements to the tree of its program.
+
+ghost use Rattle.std.specs.Prelude.{◌≡◌, None, map, IfOk};
+ghost use Rattle.dc_tree.specs.Blocks.{line_of};
+ghost use Rattle.dc_nest.specs.declared.place.Place.{Place};
+ghost use Rattle.dc_nest.specs.declared.draft.Draft.{Draft};
+ghost use Rattle.dc_nest.specs.Drafts.{put_all};
+ghost use Rattle.dc_nest.specs.Judging.{judged};
+ghost use Rattle.dc_nest.specs.Answer.{Answers};
+
+use crate::building::put;
+use crate::draft::Draft;
+use crate::judging::judge;
+use crate::stack::Stack;
+use dc_text::{DcList, NoMemory};
+use dc_tree::{Fail, Lined, Program};
+use std::alloc::Global;
+
+fn drafted(alloc: Global, list: DcList<Lined>) -> Result<Draft, NoMemory>
+    ensures { IfOk result (λ draft. draft ≡ put_all Draft.Outset list) }
+{
+    let mut rest = Stack::from_list(list);
+    let mut draft = Draft::Outset;
+    while let Some(lined) = rest.pop() {
+        draft = put(alloc, draft, lined)?;
+    }
+    Ok(draft)
+}
+
+/// The tree of statements that break no rule. So no more than 64 constructs are open.
+fn build(alloc: Global, list: DcList<Lined>) -> Result<Program, Fail>
+    requires { judged None Place.Outset 1 (map line_of list) ≡ None }
+    ensures { Answers list result }
+{
+    let draft = drafted(alloc, list)?;
+    match draft {
+        Draft::Ended(program) => Ok(program),
+        _ => unreachable!(),
+    }
+}
+
+/// Gives the program whose statements in the order of its text are these, or the first rule of
+/// nesting that they break: of those on the least line the least. The list is dropped on a refusal.
+pub fn nest(alloc: Global, list: DcList<Lined>) -> Result<Program, Fail>
+    ensures { Answers list result }
+{
+    let first = judge(alloc, list.as_slice())?;
+    match first {
+        Some(refusal) => Err(Fail::Refused(refusal)),
+        None => build(alloc, list),
+    }
+}
