@@ -1,4 +1,5 @@
 -- Examples of the definitions, each computed.
 pub mod Entries
 pub mod Operations
+pub mod Shapes
 pub mod Store

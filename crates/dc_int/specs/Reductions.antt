@@ -5,7 +5,7 @@ use Rattle.std.specs.Prelude.{Bool, true, false, not, ◌&&◌, ◌||◌, ◌==�
 use Rattle.std.specs.Int.{int_max, int_min}
 use Rattle.dc_int.specs.declared.kind.Kind.{Kind}
 use Rattle.dc_int.specs.declared.operation.ReduceOp.{ReduceOp}
-use Rattle.dc_int.specs.Kinds.{least_of, greatest_of, is_in_range, is_truth_value, wrapped}
+use Rattle.dc_int.specs.Kinds.{least_of, greatest_of, value_fits, wrapped}
 use Rattle.dc_int.specs.Operations.{bits_and, bits_or, bits_xor}
 
 -- The truth that a number stands for, and the number of a truth. This project's own.
@@ -46,7 +46,7 @@ is_logical op = false
 -- The values that a reduction combines: numbers of the kind, and 0 or 1 for a logical operation.
 -- This project's own.
 abbrev pub can_combine : ReduceOp → Kind → ℤ → Bool
-can_combine op kind z = is_in_range kind z && (not (is_logical op) || is_truth_value z)
+can_combine op kind z = value_fits kind (is_logical op) z
 
 -- Two values combined. After clause 11.1.7; the logical operations are those of clause 10.1.5.4.
 abbrev pub combined : ReduceOp → Kind → ℤ → ℤ → ℤ
