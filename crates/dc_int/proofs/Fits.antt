@@ -10,7 +10,7 @@ use Rattle.dc_int.specs.declared.access.ElementId.{ElementId}
 use Rattle.dc_int.specs.declared.operation.ReduceOp.{ReduceOp}
 use Rattle.dc_int.specs.declared.variable.Shape.{Shape}
 use Rattle.dc_int.specs.Entries.{Entry, Reads, Defines, Undefines, Contributes, store_after, store_after_entry}
-use Rattle.dc_int.proofs.Wraps.{in_range-is, wrapped_in_range}
+use Rattle.dc_int.proofs.Wraps.{is_of_kind-holds, wrapped_in_range}
 use Rattle.dc_int.specs.declared.kind.Kind.{Kind}
 use Rattle.dc_int.specs.Kinds.{InRange, value_fits, wrapped, is_truth_value}
 use Rattle.dc_int.specs.Sorts.{fitted, sort_with}
@@ -247,11 +247,11 @@ truth-within Kind.K8 z is = let between = truth-between z is in (omega (arith, i
 
 -- Each kind has 0 and 1.
 pub truth-fits : (kind : Kind) (z : ℤ) → is_truth_value z ≡ true → value_fits kind true z ≡ true
-truth-fits kind z is = both (in_range-is kind z (truth-within kind z is)) is
+truth-fits kind z is = both (is_of_kind-holds kind z (truth-within kind z is)) is
 
 -- A wrapped number is one of its kind.
 pub wrapped-fits : (kind : Kind) (z : ℤ) → value_fits kind false (wrapped kind z) ≡ true
-wrapped-fits kind z = both (in_range-is kind (wrapped kind z) (wrapped_in_range kind z)) refl
+wrapped-fits kind z = both (is_of_kind-holds kind (wrapped kind z) (wrapped_in_range kind z)) refl
 
 -- What an assignment makes of a value is a value of the variable.
 pub fitted-fits
