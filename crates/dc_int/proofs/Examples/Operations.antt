@@ -42,9 +42,6 @@ pub modulo_of_a_multiple : applied Op.Modulo Kind.K4 (pos 6) (neg_ℤ (pos 3)) �
 unfolding int_wrap
 modulo_of_a_multiple = refl
 
-pub zero_divides_nothing : applied Op.Modulo Kind.K4 (pos 7) (pos 0) ≡ Err OpFault.Zero
-zero_divides_nothing = refl
-
 -- 2**(-3), 0**0, 0**(-1), (-1)**(-3) and a power that wraps
 pub two_to_minus_three : applied Op.Pow Kind.K4 (pos 2) (neg_ℤ (pos 3)) ≡ Ok (pos 0)
 unfolding int_wrap
