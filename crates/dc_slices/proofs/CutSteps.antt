@@ -3,7 +3,7 @@ use Rattle.std.proofs.Common.{◌≡◌, ◌<◌, ◌≤◌, length, arith, ℕ,
 use Rattle.std.proofs.lemmas.Bool.{cases_Bool}
 use Rattle.dc_tree.specs.declared.token.Token.{Token}
 use Rattle.dc_slices.specs.declared.cutting.Stop.{Stop}
-use Rattle.dc_slices.specs.Cutting.{class, halts, level, before, from, cuts, past_first, led, Stopped, FirstCut}
+use Rattle.dc_slices.specs.Cutting.{class, halts, level, before, from, cuts, past_first, Stopped, FirstCut}
 
 pub from-stopped : (stop : Stop) (depth : ℕ) (tokens : List Token) → Stopped stop (from stop depth tokens)
 from-stopped stop depth [] = tt
@@ -63,16 +63,3 @@ begun f items rest whole none is = rw none is
 
 pub begun-one : {X A : Type 0} (f : X → A) (items none : List X) (item : X) (rest more : List A) (head : A) → items ≡ none ++ item ∷ [] → none ≡ [] → f item ≡ head → rest ≡ more → map f items ++ rest ≡ head ∷ more
 begun-one f items none item rest more head one empty first is = rw one (rw empty (rw first (rw is refl)))
-
--- the first token with what follows it, by the place of the next stop
-pub led-found : (stop : Stop) (tokens : List Token) (at : ℕ) → 0 < length tokens → take at (past_first tokens) ≡ before stop 0 (past_first tokens) → take (at + 1) tokens ≡ led stop tokens
-led-found stop [] at some front = absurd (omega arith)
-led-found stop (token ∷ tokens) at some front = rw add-one (ap (λ (more : List Token). token ∷ more) front)
-
-pub led-none : (stop : Stop) (tokens : List Token) → length tokens < 1 → tokens ≡ led stop tokens
-led-none stop [] none = refl
-led-none stop (token ∷ tokens) none = absurd (omega arith)
-
-pub from-none : (stop : Stop) (tokens : List Token) → length tokens < 1 → tokens ≡ from stop 0 (past_first tokens)
-from-none stop [] none = refl
-from-none stop (token ∷ tokens) none = absurd (omega arith)
