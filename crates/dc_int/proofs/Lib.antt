@@ -1,4 +1,5 @@
 pub mod Elements
+pub mod Exact
 pub mod Examples
 pub mod Fits
 pub mod Powers

@@ -126,7 +126,8 @@ wraps-back : (kind : Kind) (n : ℕ) → n < 2 ^ bits (width kind) → pattern k
 unfolding int_wrap
 wraps-back kind n small = ap (λ m. cast_unsigned (width kind) (cast_signed (width kind) m)) (mod-eq_of_lt small) ∙ of_z-to_z (width kind) n small
 
-pattern-small : (kind : Kind) (a : ℤ) → InRange kind a → pattern kind a < 2 ^ bits (width kind)
+-- A pattern has no more bits than the kind.
+pub pattern-small : (kind : Kind) (a : ℤ) → InRange kind a → pattern kind a < 2 ^ bits (width kind)
 pattern-small kind a within = (of_z_fits (width kind) a (in_range_fits kind a within)).fits
 
 truth-back : (b : Bool) → truth (number_of_truth b) ≡ b
@@ -202,8 +203,10 @@ lesser-inside : (kind : Kind) (a b : ℤ) → InRange kind a → InRange kind b 
 lesser-inside kind a b (a_low, a_high) (b_low, b_high) = (omega (arith, ints, clamps), omega (arith, ints, clamps))
 
 -- a value that can be combined is of the kind
-can-in_range : (op : ReduceOp) (kind : Kind) (a : ℤ) → can_combine op kind a ≡ true → InRange kind a
+pub can-in_range : (op : ReduceOp) (kind : Kind) (a : ℤ) → can_combine op kind a ≡ true → InRange kind a
 can-in_range op kind a suits = is_of_kind-true kind a (and_parts (is_of_kind kind a) (not (is_logical op) || is_truth_value a) suits).0
+
+pub ruleset ranges = (can-in_range)
 
 -- Of three values it makes no difference which two are combined first.
 pub combined-assoc

@@ -92,6 +92,24 @@ wrapped_only Kind.K2 z r within same = only_at w16 z r (in_range_fits Kind.K2 r 
 wrapped_only Kind.K4 z r within same = only_at w32 z r (in_range_fits Kind.K4 r within) same
 wrapped_only Kind.K8 z r within same = only_at w64 z r (in_range_fits Kind.K8 r within) same
 
+wrapped_again_at : (w : Width) → int_wrap w (pos (2 ^ bits w64)) ≡ pos 0 → (z : ℤ) → int_wrap w (int_wrap w64 z) ≡ int_wrap w z
+wrapped_again_at w none z =
+    let m = pos (2 ^ bits w64) in
+    let (k, is) = congruent_at w64 z in
+    let r = int_wrap w64 z in
+    let multiple : int_wrap w (k *ℤ m) ≡ int_wrap w (pos 0) =
+    sym (int_wrap-mul_right w k m) ∙ ap (λ x. int_wrap w (k *ℤ x)) none ∙ ap (int_wrap w) (times_zero k) in
+    ap (int_wrap w) (sym (add_zero r)) ∙ sym (int_wrap-add_right w r (pos 0)) ∙ ap (λ x. int_wrap w (r +ℤ x)) (sym multiple)
+    ∙ int_wrap-add_right w r (k *ℤ m) ∙ ap (int_wrap w) (sym is)
+
+-- A number that was wrapped to 64 bits wraps to the same.
+pub wrapped-again : (kind : Kind) (z : ℤ) → wrapped kind (wrapped Kind.K8 z) ≡ wrapped kind z
+unfolding int_wrap
+wrapped-again Kind.K1 z = wrapped_again_at w8 refl z
+wrapped-again Kind.K2 z = wrapped_again_at w16 refl z
+wrapped-again Kind.K4 z = wrapped_again_at w32 refl z
+wrapped-again Kind.K8 z = wrapped_again_at w64 refl z
+
 -- what is left of the Euclidean remainder, in the lower and in the upper half
 low_at : (w : Width) (z rest : ℤ) → rest ≡ int_rem_euclid z (pos (2 ^ bits w)) → rest <ℤ pos (2 ^ hbits w) → pos 0 ≤ℤ rest → rest ≡ int_wrap w z
 unfolding int_wrap

@@ -96,26 +96,26 @@ one_bits (suc bits) n = n % 2 + one_bits bits (n / 2)
 abbrev pub count_of_ones : Kind → ℤ → ℤ
 count_of_ones kind a = pos (one_bits (bits_of kind) (pattern kind a))
 
--- What comes of a place where the test says that it is allowed. The value is a function, so that
--- no other place is computed with. The fault is this project's own.
-abbrev pub allowed_at : Bool → (ℕ → ℤ) → ℕ → Outcome
-allowed_at true value place = Ok (value place)
-allowed_at false value place = Err OpFault.Shift
+-- The places that a shift is by: from 0 up to the number of bits, as the procedures of clause 16.9 ask it.
+-- The fault is this project's own.
+abbrev pub places : Kind → ℤ → Result ℕ OpFault
+places kind (pos n) = if nat_le n (bits_of kind) then Ok n else Err OpFault.Shift
+places kind (negsuc n) = Err OpFault.Shift
 
--- A shift is by 0 places up to the number of bits, and a bit's position is from 0 below it, as the
--- procedures of clause 16.9 ask it of their arguments.
-abbrev pub by_places : Kind → (ℕ → ℤ) → ℤ → Outcome
-by_places kind value (pos n) = allowed_at (nat_le n (bits_of kind)) value n
-by_places kind value (negsuc n) = Err OpFault.Shift
+-- The position of a bit: from 0 below the number of bits, as the procedures of clause 16.9 ask it.
+abbrev pub position : Kind → ℤ → Result ℕ OpFault
+position kind (pos n) = if nat_lt n (bits_of kind) then Ok n else Err OpFault.Shift
+position kind (negsuc n) = Err OpFault.Shift
 
-abbrev pub at_position : Kind → (ℕ → ℤ) → ℤ → Outcome
-at_position kind value (pos n) = allowed_at (nat_lt n (bits_of kind)) value n
-at_position kind value (negsuc n) = Err OpFault.Shift
+-- What comes of a place that is allowed. The value is a function, so that no other place is computed with.
+abbrev pub at_place : (ℕ → ℤ) → Result ℕ OpFault → Outcome
+at_place value (Ok place) = Ok (value place)
+at_place value (Err fault) = Err fault
 
 -- To the left, or to the right with zeros by a negative number of places: ISHFT of clause 16.9.
 abbrev pub shifted : Kind → ℤ → ℤ → Outcome
-shifted kind a (pos n) = by_places kind (left_by a) (pos n)
-shifted kind a (negsuc n) = by_places kind (right_by kind a) (pos (suc n))
+shifted kind a (pos n) = at_place (left_by a) (places kind (pos n))
+shifted kind a (negsuc n) = at_place (right_by kind a) (places kind (pos (suc n)))
 
 -- The operations on bits, exact. After clause 16.9. No other operation is asked for here.
 abbrev pub exact_on_bits : Op → Kind → ℤ → ℤ → Outcome
@@ -124,11 +124,11 @@ exact_on_bits Op.Ior kind a b = Ok (bits_or kind a b)
 exact_on_bits Op.Ieor kind a b = Ok (bits_xor kind a b)
 exact_on_bits Op.Not kind a b = Ok (bits_not kind a)
 exact_on_bits Op.Ishft kind a b = shifted kind a b
-exact_on_bits Op.Shiftl kind a b = by_places kind (left_by a) b
-exact_on_bits Op.Shiftr kind a b = by_places kind (right_by kind a) b
-exact_on_bits Op.Shifta kind a b = by_places kind (right_signed_by a) b
-exact_on_bits Op.Ibset kind a b = at_position kind (bit_set kind a) b
-exact_on_bits Op.Ibclr kind a b = at_position kind (bit_cleared kind a) b
+exact_on_bits Op.Shiftl kind a b = at_place (left_by a) (places kind b)
+exact_on_bits Op.Shiftr kind a b = at_place (right_by kind a) (places kind b)
+exact_on_bits Op.Shifta kind a b = at_place (right_signed_by a) (places kind b)
+exact_on_bits Op.Ibset kind a b = at_place (bit_set kind a) (position kind b)
+exact_on_bits Op.Ibclr kind a b = at_place (bit_cleared kind a) (position kind b)
 exact_on_bits Op.Popcnt kind a b = Ok (count_of_ones kind a)
 exact_on_bits op kind a b = Ok (pos 0)
 
@@ -157,3 +157,14 @@ wrapped_outcome kind (Err fault) = Err fault
 -- An operation: the exact one, then wrapped, or its fault. This project's own.
 abbrev pub applied : Op → Kind → ℤ → ℤ → Outcome
 applied op kind a b = wrapped_outcome kind (exact op kind a b)
+
+-- The operations whose second operand is a number of places or the position of a bit, and so may be any
+-- number. This project's own.
+abbrev pub takes_place : Op → Bool
+takes_place Op.Ishft = true
+takes_place Op.Shiftl = true
+takes_place Op.Shiftr = true
+takes_place Op.Shifta = true
+takes_place Op.Ibset = true
+takes_place Op.Ibclr = true
+takes_place op = false

@@ -1,4 +1,4 @@
-ghost use Rattle.std.specs.Prelude.{◌≡◌, ℤ, ◌^◌, IsTrue};
+ghost use Rattle.std.specs.Prelude.{◌≡◌, ◌↔◌, ℤ, ◌^◌, IsTrue};
 ghost use Rattle.dc_int.specs.declared.kind.Kind.{Kind};
 ghost use Rattle.dc_int.specs.Kinds.{bits_of, least_of, greatest_of, InRange, Congruent, wrapped, is_bit_count, kind_with};
 
@@ -45,6 +45,13 @@ impl Kind {
             Kind::K4 => i64::from(i32::MAX),
             Kind::K8 => i64::MAX,
         }
+    }
+
+    /// Whether a number is in the range of the kind.
+    pub fn contains(self, number: i64) -> bool
+        ensures { IsTrue result ↔ InRange self number }
+    {
+        self.least() <= number && number <= self.greatest()
     }
 }
 

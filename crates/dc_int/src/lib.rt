@@ -2,10 +2,14 @@
 #![tactic(auto)]
 
 mod access;
+mod arithmetic;
+mod bits;
 mod fault;
 mod kind;
 mod law;
 mod operation;
+mod reduction;
+mod table;
 mod variable;
 
 pub use access::{Access, Action, Contribution, ElementId, Touch};
@@ -16,6 +20,8 @@ pub use law::{
     powers_and_modulo_are_the_standards, reductions_combine_in_any_order,
 };
 pub use operation::{Op, OpFault, ReduceOp};
+pub use reduction::{combine, identity};
+pub use table::apply;
 pub use variable::{Locality, Shape};
 
 #[cfg(test)]
