@@ -14,6 +14,3 @@ pub use list::DcList;
 pub use memory::NoMemory;
 pub use stack::Stack;
 pub use text::DcText;
-
-#[cfg(test)]
-mod tests;

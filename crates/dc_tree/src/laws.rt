@@ -29,13 +29,16 @@ pub fn programs_are_told_apart(a: &Program, b: &Program)
 
 /// Tokens spell one expression at most.
 pub fn tokens_spell_one_expression()
-    ensures { (one other : Tree) → Ranked one → Ranked other → spell one ≡ spell other → one ≡ other }
+    ensures { (one other : Tree) → Ranked one → Ranked other → spell one ≡ spell other
+        → one ≡ other }
 {}
 
 /// The least of some findings is the first broken rule, where there are findings, and two first
 /// broken rules are one.
 pub fn the_least_finding_is_the_first()
-    ensures first { (findings : List Refusal) (least : Refusal) → least_of findings ≡ Some least → IsFirst (found_in findings) least }
+    ensures first { (findings : List Refusal) (least : Refusal) → least_of findings ≡ Some least
+        → IsFirst (found_in findings) least }
     ensures none { (findings : List Refusal) → least_of findings ≡ None → findings ≡ [] }
-    ensures one { (findings : List Refusal) (a b : Refusal) → IsFirst (found_in findings) a → IsFirst (found_in findings) b → a ≡ b }
+    ensures one { (findings : List Refusal) (a b : Refusal) → IsFirst (found_in findings) a
+        → IsFirst (found_in findings) b → a ≡ b }
 {}

@@ -26,6 +26,3 @@ pub use stmt::{
 pub use symbols::{Role, Symbol, Symbols};
 pub use token::{Mark, Suffix, Token};
 pub use words::is_name;
-
-#[cfg(test)]
-mod tests;
