@@ -1,8 +1,8 @@
 -- A small store, and what the definitions say of it.
-use Rattle.std.proofs.Common.{◌≡◌, ℕ, [], ◌∷◌, false, Some, None, refl}
+use Rattle.std.proofs.Common.{◌≡◌, ℕ, [], ◌∷◌, true, false, Some, None, refl}
 use Rattle.std.specs.Prelude.{pos, negsuc}
 use Rattle.dc_int.specs.declared.access.ElementId.{ElementId}
-use Rattle.dc_int.specs.Store.{Bounds, Store, cell_of, value_at, put_at, bounds_of, elements_in, position_in, same_element, elements_of}
+use Rattle.dc_int.specs.Store.{Bounds, Store, cell_of, value_at, put_at, bounds_of, elements_in, position_in, same_element, comes_before, elements_of}
 
 abbrev pub element : ℕ → ℕ → ElementId
 element variable position = record { variable = variable; position = position }
@@ -93,6 +93,19 @@ none_in_an_empty_dimension = refl
 
 pub no_place_in_an_empty_dimension : position_in ((pos 5, pos 2) ∷ []) (pos 3 ∷ []) ≡ None
 no_place_in_an_empty_dimension = refl
+
+-- store order goes by the variable, and within one by the position
+pub earlier_variable : comes_before (element 1 2) (element 2 0) ≡ true
+earlier_variable = refl
+
+pub earlier_position : comes_before (element 1 0) (element 1 2) ≡ true
+earlier_position = refl
+
+pub later_variable : comes_before (element 2 0) (element 1 2) ≡ false
+later_variable = refl
+
+pub not_before_itself : comes_before (element 1 2) (element 1 2) ≡ false
+not_before_itself = refl
 
 pub all_elements : elements_of small ≡ element 0 0 ∷ element 1 0 ∷ element 1 1 ∷ element 1 2 ∷ []
 all_elements = refl
