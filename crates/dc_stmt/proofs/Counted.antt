@@ -1,5 +1,5 @@
 -- Slices are cut at the place up to which those of one kind are counted.
-use Rattle.std.proofs.Common.{◌≡◌, ◌<◌, ℕ, zero, suc, Bool, true, false, List, [], ◌∷◌, map, take, drop, Option, Some, None, refl, sym, ap, ◌∙◌, inl, inr, arith}
+use Rattle.std.proofs.Common.{◌≡◌, ℕ, List, [], ◌∷◌, map, take, drop, Option, Some, None, refl, sym, ap, ◌∙◌, inl, inr, arith}
 use Rattle.std.specs.Prelude.{max, is_none}
 use Rattle.std.proofs.Math.Nat.{zero-max}
 use Rattle.std.proofs.lemmas.Bool.{cases_Bool}

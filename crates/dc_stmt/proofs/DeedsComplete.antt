@@ -15,7 +15,7 @@ use Rattle.dc_slices.specs.declared.cutting.Stop.{Stop}
 use Rattle.dc_slices.specs.Words.{keyword, is_reserved}
 use Rattle.dc_slices.specs.Finding.{Found, plainly, mapped, both, given, expr, list, any_list, followed_list}
 use Rattle.dc_parts.specs.Parts.{target, item}
-use Rattle.dc_parts.specs.Deeds.{assigned, assigned_from, defined, deed_named, action}
+use Rattle.dc_parts.specs.Deeds.{assigned, defined, deed_named, action}
 use Rattle.dc_slices.specs.Finding as finding
 use Rattle.dc_stmt.specs.Depth.{deepest_of, target_depth, deed_depth}
 use Rattle.dc_stmt.proofs.Clear.{before-stop, from-stop, in_brackets-is}
