@@ -6,6 +6,4 @@ mod calls;
 #[cfg(test)]
 mod loops;
 #[cfg(test)]
-mod plain_judge;
-#[cfg(test)]
 mod top_call;
