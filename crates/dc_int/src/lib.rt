@@ -12,6 +12,3 @@ pub use fault::{FaultKind, Why};
 pub use kind::{Kind, wrap, wrap_to, wrapping_is_the_one_number};
 pub use operation::{Op, OpFault, ReduceOp};
 pub use variable::{Locality, Shape};
-
-#[cfg(test)]
-mod tests;
