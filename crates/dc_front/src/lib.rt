@@ -18,6 +18,3 @@ mod values;
 
 pub use law::a_text_spells_one_program;
 pub use source::{Accepted, accept};
-
-#[cfg(test)]
-mod tests;

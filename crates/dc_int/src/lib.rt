@@ -23,6 +23,3 @@ pub use operation::{Op, OpFault, ReduceOp};
 pub use reduction::{combine, identity};
 pub use table::apply;
 pub use variable::{Locality, Shape};
-
-#[cfg(test)]
-mod tests;

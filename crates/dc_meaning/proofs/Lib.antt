@@ -1,7 +1,6 @@
 pub mod Blocking
 pub mod Changes
 pub mod Clashing
-pub mod Doubling
 pub mod EveryOrder
 pub mod FirstStores
 pub mod Forgetting

@@ -3,7 +3,6 @@ pub mod Acts
 pub mod Alone
 pub mod Calls
 pub mod Concurrent
-pub mod Doubling
 pub mod Execution
 pub mod Headers
 pub mod Judging

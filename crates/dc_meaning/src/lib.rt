@@ -41,6 +41,3 @@ pub use plain::{PlainVerdict, has_loop, plain_verdict};
 pub use showing::values_of;
 pub use stop::Stop;
 pub use visits::visit;
-
-#[cfg(test)]
-mod tests;

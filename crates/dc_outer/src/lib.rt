@@ -19,6 +19,3 @@ pub use memory_files::{FilesInMemory, FilesSure};
 pub use memory_sink::{BytesOut, BytesOutSure};
 pub use memory_source::{BytesIn, BytesInSure};
 pub use traits::{Files, Gate, OpenGate, Sink, Source};
-
-#[cfg(test)]
-mod tests;

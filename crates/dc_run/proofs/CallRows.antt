@@ -4,6 +4,7 @@ use Rattle.std.specs.Prelude.{◌++◌, codes, pos}
 use Rattle.std.specs.Fmt.{digits}
 use Rattle.std.specs.Int.{int_wrap}
 use Rattle.dc_int.specs.declared.kind.Kind.{Kind}
+use Rattle.dc_int.specs.declared.operation.ReduceOp.{ReduceOp}
 use Rattle.dc_int.specs.Store.{value_at, cell_of, put_at}
 use Rattle.dc_tree.specs.declared.stmt.Intent.{Intent}
 use Rattle.dc_tree.specs.declared.stmt.Local.{Local}
@@ -13,9 +14,9 @@ use Rattle.dc_tree.specs.declared.token.Mark.{Mark}
 use Rattle.dc_tree.specs.Blocks.{Subprogram, Source}
 use Rattle.dc_tree.specs.Statements.{Name}
 use Rattle.dc_tree.specs.Statements as statements
-use Rattle.dc_meaning.proofs.Sources.{a, b, f, g, i, j, k, q, r, s, t, u, v, x, y, num, zero, one, two, three, four, nine, ten, var, of, ◌plus◌, ◌minus◌, ◌times◌, ◌over◌, joined, if_doing, if_set}
+use Rattle.dc_meaning.proofs.Sources.{a, b, f, g, i, j, k, q, r, s, t, u, v, x, y, num, zero, one, two, three, four, nine, ten, var, of, ◌plus◌, ◌minus◌, ◌times◌, ◌over◌, joined, in_brackets, if_doing, if_set}
 use Rattle.dc_meaning.proofs.Sources.{set, set_at, print, call, from_to, concurrent, masked, counted, if_else, scalar, scalar_with, array, array_with, declared, declared_in, result, dummy, subprogram, program, program_with}
-use Rattle.dc_run.proofs.Telling.{judged, limited}
+use Rattle.dc_run.proofs.Telling.{judged, limited, ordered}
 
 -- A function of one number, and a subroutine, each with the names of its scope.
 abbrev function_in : ℕ → Name → Name → List Symbol
@@ -53,6 +54,37 @@ function-in-a-loop : judged b_i_and_g
 unfolding digits value_at cell_of put_at int_wrap
 function-in-a-loop = refl
 
+-- `f(x)` is `x + s`
+abbrev summing : Source
+summing = program_with
+    (concurrent 3 (from_to i one two ∷ []) (Local.Reduce ReduceOp.Add (s ∷ []) ∷ []) (set 4 s (var s plus of f (var i ∷ [])) ∷ [])
+    ∷ print 6 (var s ∷ []) ∷ [])
+    (subprogram (set 10 f (var x plus var s) ∷ []) ∷ [])
+
+abbrev s_i_and_f : List Symbol
+s_i_and_f = declared s (scalar_with (pos 0)) ∷ declared i scalar ∷ function_in 1 f f
+
+-- A function that an iteration calls sees the REDUCE variable as it was before the loop, and not what has been added since.
+function-sees-no-partial-sum : judged s_i_and_f summing ≡ codes "3" ++ 10 ∷ []
+unfolding digits value_at cell_of put_at int_wrap
+function-sees-no-partial-sum = refl
+
+-- The same where the loop isn't judged, and one iteration runs behind the other.
+function-sees-no-partial-sum-in-order : ordered 0 s_i_and_f summing ≡ codes "3" ++ 10 ∷ []
+unfolding digits value_at cell_of put_at int_wrap
+function-sees-no-partial-sum-in-order = refl
+
+-- The subscripts of an update are evaluated once: the call in them has the only turn.
+subscripts-of-an-update : limited 1 (declared s (array_with 2 (pos 0 ∷ pos 0 ∷ [])) ∷ declared i scalar ∷ function_in 1 f f)
+    (program_with
+    (concurrent 3 (from_to i one one ∷ []) (Local.Reduce ReduceOp.Add (s ∷ []) ∷ [])
+    (set_at 4 s (of f (one ∷ []) ∷ []) (of s (of f (one ∷ []) ∷ []) plus one) ∷ [])
+    ∷ print 6 (var s ∷ []) ∷ [])
+    (subprogram (set 10 f (var x) ∷ []) ∷ []))
+    ≡ codes "1 0" ++ 10 ∷ []
+unfolding digits value_at cell_of put_at int_wrap
+subscripts-of-an-update = refl
+
 -- An exposed read by a function is one of the iteration that calls it.
 race-by-a-function : judged (declared b (array 3) ∷ declared i scalar ∷ declared g (scalar_with (pos 10)) ∷ function_in 1 f f)
     (program_with (concurrent 3 (from_to i one two ∷ []) []
@@ -85,6 +117,17 @@ too-deep = refl
 depth-before-turn : limited 100 (function_in 1 f r) (descends (codes "101")) ≡ codes "fault: TooDeep: line 7" ++ 10 ∷ []
 unfolding digits value_at cell_of put_at int_wrap
 depth-before-turn = refl
+
+-- The arguments are evaluated before the depth is looked at: those of the call that would be too deep have a zero divisor.
+arguments-before-depth : judged (function_in 1 f r)
+    (program_with (print 2 (of f (num (codes "101") ∷ []) ∷ []) ∷ [])
+    (subprogram
+    (set 6 r zero
+    ∷ if_set 7 (joined Mark.Gt (var x) one) r
+    (of f (var x minus one plus (zero over in_brackets (var x minus two)) ∷ []) plus one) ∷ []) ∷ []))
+    ≡ codes "fault: DivideByZero: line 7" ++ 10 ∷ []
+unfolding digits value_at cell_of put_at int_wrap
+arguments-before-depth = refl
 
 -- With two turns the third call has none left.
 two-calls-are-spent : limited 2 (function_in 1 f r) (descends (codes "3")) ≡ codes "spent: line 7" ++ 10 ∷ []
@@ -185,6 +228,16 @@ undefines-races : judged (declared t (scalar_with (pos 1)) ∷ declared i scalar
 unfolding digits value_at cell_of put_at int_wrap
 undefines-races = refl
 
+-- Two INTENT(OUT) places become undefined in the order of the arguments: that of u breaks first, though t is declared first.
+out-places-in-order : judged
+    (declared t (scalar_with (pos 1)) ∷ declared u (scalar_with (pos 1)) ∷ declared i scalar
+    ∷ subroutine_in 1 s (declared_in 1 x (dummy 0 Intent.Out) ∷ declared_in 1 y (dummy 1 Intent.Out) ∷ []))
+    (program_with (concurrent 3 (from_to i one two ∷ []) (Local.Shared (t ∷ u ∷ []) ∷ []) (call 4 s (var u ∷ var t ∷ []) ∷ []) ∷ [])
+    (subprogram [] ∷ []))
+    ≡ codes "race: u: iteration (1) undefines at line 4, iteration (2) undefines at line 4" ++ 10 ∷ []
+unfolding digits value_at cell_of put_at int_wrap
+out-places-in-order = refl
+
 -- In unspecified locality a becoming undefined breaks with an exposed read.
 undefines-and-reads : judged (declared t (scalar_with (pos 1)) ∷ declared u scalar ∷ declared i scalar ∷ clears)
     (program_with
@@ -232,6 +285,14 @@ in-before-out : judged
     ≡ codes "5" ++ 10 ∷ []
 unfolding digits value_at cell_of put_at int_wrap
 in-before-out = refl
+
+-- The same the other way about: the place stays defined until all arguments are associated.
+out-before-in : judged
+    (declared t (scalar_with (pos 4)) ∷ subroutine_in 1 s (declared_in 1 y (dummy 0 Intent.Out) ∷ declared_in 1 x (dummy 1 Intent.Into) ∷ []))
+    (program_with (call 3 s (var t ∷ var t ∷ []) ∷ print 4 (var t ∷ []) ∷ []) (subprogram (set 9 y (var x plus one) ∷ []) ∷ []))
+    ≡ codes "5" ++ 10 ∷ []
+unfolding digits value_at cell_of put_at int_wrap
+out-before-in = refl
 
 -- Dummies are told apart by their places, whatever the order of their declarations.
 declared-otherwise : judged

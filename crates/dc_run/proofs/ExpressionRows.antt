@@ -12,7 +12,7 @@ use Rattle.dc_tree.specs.declared.token.Suffix.{Suffix}
 use Rattle.dc_tree.specs.Syntax as syntax
 use Rattle.dc_tree.specs.Syntax.{Tree}
 use Rattle.dc_meaning.proofs.Sources.{a, b, f, m, n, q, t, u, num, num_of_kind, zero, one, two, three, four, nine, ten, yes, no, literal, var, of, of_kind, ◌plus◌, ◌minus◌, ◌over◌, joined, minus_of, not_of, in_brackets}
-use Rattle.dc_meaning.proofs.Sources.{set, print, numbers, truths, scalar, scalar_with, array, array_with, declared, program}
+use Rattle.dc_meaning.proofs.Sources.{set, set_at, print, numbers, truths, scalar, scalar_with, array, array_with, declared, program}
 use Rattle.dc_run.proofs.Telling.{judged}
 
 -- ---- what expressions are made of
@@ -161,6 +161,25 @@ about-arrays : prints
 unfolding digits value_at cell_of put_at int_wrap
 about-arrays = refl
 
+-- Bounds may be greater than kind 4 has; what is told of them is wrapped to it.
+bounds-wrap : judged (declared a (numbers Kind.K4 ((pos 5000000000, pos 5000000001) ∷ []) []) ∷ [])
+    (program (print 3
+    (of (codes "lbound") (var a ∷ one ∷ []) ∷ of (codes "ubound") (var a ∷ one ∷ []) ∷ of (codes "size") (var a ∷ []) ∷ []) ∷ []))
+    ≡ codes "705032704 705032705 2" ++ 10 ∷ []
+unfolding digits value_at cell_of put_at int_wrap
+bounds-wrap = refl
+
+-- An array with one empty dimension has no element. The bounds 1 and 0 are those of that dimension alone.
+empty-beside-full : judged (declared a (numbers Kind.K4 ((pos 5, pos 2) ∷ (pos 3, pos 4) ∷ []) []) ∷ [])
+    (program
+    (print 3 (of (codes "size") (var a ∷ []) ∷ of (codes "size") (var a ∷ one ∷ []) ∷ of (codes "size") (var a ∷ two ∷ []) ∷ [])
+    ∷ print 4
+    (of (codes "lbound") (var a ∷ one ∷ []) ∷ of (codes "ubound") (var a ∷ one ∷ []) ∷ of (codes "lbound") (var a ∷ two ∷ [])
+    ∷ of (codes "ubound") (var a ∷ two ∷ []) ∷ []) ∷ []))
+    ≡ codes "0 0 2" ++ 10 ∷ (codes "1 0 3 4" ++ 10 ∷ [])
+unfolding digits value_at cell_of put_at int_wrap
+empty-beside-full = refl
+
 -- They read no element; SUM reads all, and wraps at the kind of the array.
 sums : prints (of (codes "size") (var t ∷ []) ∷ of (codes "sum") (var a ∷ []) ∷ of (codes "sum") (var m ∷ [])
     ∷ of (codes "sum") (var (codes "empty") ∷ []) ∷ [])
@@ -186,6 +205,27 @@ of-truths : prints (of (codes "count") (var f ∷ []) ∷ of (codes "any") (var 
     ≡ codes "2 T F F" ++ 10 ∷ []
 unfolding digits value_at cell_of put_at int_wrap
 of-truths = refl
+
+-- Of an empty array none is true, and all are.
+of-no-truths : judged (declared q (truths ((pos 1, pos 0) ∷ []) []) ∷ [])
+    (program (print 3 (of (codes "any") (var q ∷ []) ∷ of (codes "all") (var q ∷ []) ∷ of (codes "count") (var q ∷ []) ∷ []) ∷ []))
+    ≡ codes "F T 0" ++ 10 ∷ []
+unfolding digits value_at cell_of put_at int_wrap
+of-no-truths = refl
+
+-- ANY refers to each element, also where one before it is true.
+any-of-undefined : judged (declared q (truths ((pos 1, pos 2) ∷ []) []) ∷ [])
+    (program (set_at 3 q (one ∷ []) yes ∷ print 4 (of q (one ∷ []) ∷ []) ∷ print 5 (of (codes "any") (var q ∷ []) ∷ []) ∷ []))
+    ≡ codes "T" ++ 10 ∷ (codes "fault: Undefined: line 5" ++ 10 ∷ [])
+unfolding digits value_at cell_of put_at int_wrap
+any-of-undefined = refl
+
+-- So does ALL, where one before it is false.
+all-of-undefined : judged (declared q (truths ((pos 1, pos 2) ∷ []) []) ∷ [])
+    (program (set_at 3 q (one ∷ []) no ∷ print 4 (of (codes "all") (var q ∷ []) ∷ []) ∷ []))
+    ≡ codes "fault: Undefined: line 4" ++ 10 ∷ []
+unfolding digits value_at cell_of put_at int_wrap
+all-of-undefined = refl
 
 -- ---- faults, and the order of evaluation
 

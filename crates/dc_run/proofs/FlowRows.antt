@@ -4,15 +4,17 @@ use Rattle.std.specs.Prelude.{◌++◌, codes, pos}
 use Rattle.std.specs.Fmt.{digits}
 use Rattle.std.specs.Int.{int_wrap}
 use Rattle.dc_int.specs.Store.{value_at, cell_of, put_at}
+use Rattle.dc_tree.specs.declared.stmt.Intent.{Intent}
+use Rattle.dc_tree.specs.declared.symbols.Role.{Role}
 use Rattle.dc_tree.specs.declared.symbols.Symbol.{Symbol}
 use Rattle.dc_tree.specs.declared.token.Mark.{Mark}
 use Rattle.dc_tree.specs.Blocks.{Item, Source}
 use Rattle.dc_tree.specs.Statements.{Name}
 use Rattle.dc_tree.specs.Statements as statements
 use Rattle.dc_tree.specs.Syntax.{Tree}
-use Rattle.dc_meaning.proofs.Sources.{a, i, j, n, num, zero, one, two, three, four, nine, ten, yes, no, var, of, ◌plus◌, ◌minus◌, ◌times◌, ◌over◌, joined, minus_of, doing, if_doing}
+use Rattle.dc_meaning.proofs.Sources.{a, f, i, j, n, x, num, zero, one, two, three, four, nine, ten, yes, no, var, of, ◌plus◌, ◌minus◌, ◌times◌, ◌over◌, joined, minus_of, doing, if_doing}
 use Rattle.dc_meaning.proofs.Sources.{set, set_at, print, exit, from_to, concurrent, loop_with, counted, forever, while, if_then, if_arms, arm_if, arm_else_if, arm_else, case, default, select}
-use Rattle.dc_meaning.proofs.Sources.{scalar, scalar_with, array_with, declared, program}
+use Rattle.dc_meaning.proofs.Sources.{scalar, scalar_with, array_with, declared, declared_in, result, dummy, subprogram, program, program_with}
 use Rattle.dc_run.proofs.Telling.{judged, limited, ordered}
 
 abbrev i_j_and_n : List Symbol
@@ -67,7 +69,7 @@ cases : judged i_j_and_n
 unfolding digits value_at cell_of put_at int_wrap
 cases = refl
 
--- Without a default nothing is done where no range has the selector, which is evaluated once.
+-- Without a default nothing is done where no range has the selector.
 no-case : judged i_j_and_n
     (program (select 3 (of (codes "int") (var n ∷ [])) (case 4 (statements.only one ∷ []) (counts 5 one ∷ []) ∷ []) ∷ print 7 (var n ∷ []) ∷ []))
     ≡ codes "0" ++ 10 ∷ []
@@ -81,6 +83,17 @@ case-of-a-truth : judged i_j_and_n
     ≡ codes "2" ++ 10 ∷ []
 unfolding digits value_at cell_of put_at int_wrap
 case-of-a-truth = refl
+
+-- The selector is evaluated once, before any arm is looked at: the call in it has the only turn, and the second arm fits.
+selector-is-evaluated-once : limited 1
+    (declared f (Role.Function 1) ∷ declared_in 1 x (dummy 0 Intent.Into) ∷ declared_in 1 f result ∷ [])
+    (program_with
+    (select 2 (of f (three ∷ []))
+    (case 3 (statements.only one ∷ []) (print 4 (one ∷ []) ∷ []) ∷ case 5 (statements.only three ∷ []) (print 6 (three ∷ []) ∷ []) ∷ []) ∷ [])
+    (subprogram (set 11 f (var x) ∷ []) ∷ []))
+    ≡ codes "3" ++ 10 ∷ []
+unfolding digits value_at cell_of put_at int_wrap
+selector-is-evaluated-once = refl
 
 -- The fault of a selector is at the line of SELECT CASE.
 fault-of-a-selector : judged i_j_and_n (program (select 3 (one over var n) (default 4 [] ∷ []) ∷ [])) ≡ codes "fault: DivideByZero: line 3" ++ 10 ∷ []

@@ -2,5 +2,4 @@ pub mod Answered
 pub mod Playing
 pub mod ReportLine
 pub mod Running
-pub mod Sample
 pub mod VisitOrders

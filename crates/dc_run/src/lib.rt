@@ -12,6 +12,3 @@ pub use ending::Ending;
 pub use law::subscripts_lead_back;
 pub use running::RunOut;
 pub use whole::{report_line, run};
-
-#[cfg(test)]
-mod tests;

@@ -1,5 +1,4 @@
-//! Worked examples of the top call, as tables: sources, words, and what stands on out and log. Beside them
-//! operations at their edges, and loops judged by themselves.
+//! Worked examples of the top call as tables: sources, words, and what stands on out and log.
 #![tactic(auto)]
 
 #[cfg(test)]
@@ -7,8 +6,6 @@ mod calls;
 #[cfg(test)]
 mod loops;
 #[cfg(test)]
-mod operations;
-#[cfg(test)]
-mod plain_judge;
+mod runs;
 #[cfg(test)]
 mod top_call;

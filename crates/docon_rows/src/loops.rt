@@ -23,7 +23,7 @@ struct Row<'a> {
     status: u8,
 }
 
-const ROWS: [Row<'static>; 13] = [
+const ROWS: [Row<'static>; 15] = [
     Row {
         lines: &[],
         out: "",
@@ -189,6 +189,33 @@ const ROWS: [Row<'static>; 13] = [
         out: "30 20 10\n1 2 3\n",
         log: "",
         status: 0,
+    },
+    // what is assigned behind a loop
+    Row {
+        lines: &[
+            "integer :: a(4), i,n",
+            "  n = 0",
+            "do concurrent (i = 1:4)",
+            "   a(i) = n + 2*i -1",
+            "end do",
+            "a(n + 1) = a(4)",
+            "print *, a",
+        ],
+        out: "7 3 5 7\n",
+        log: "",
+        status: 0,
+    },
+    // a block doesn't define its index
+    Row {
+        lines: &[
+            "integer :: i",
+            "do concurrent (i = 1:4)",
+            "  i = 3",
+            "end do",
+        ],
+        out: "",
+        log: "refused: line 1: K0\n",
+        status: 1,
     },
 ];
 

@@ -1,4 +1,5 @@
-use crate::{
+//! The traits of the outside, over memory and over the system: a file, standard input, output and error.
+use dc_outer::{
     BytesIn, BytesInSure, BytesOut, BytesOutSure, DiskFiles, Failed, FileFault, Files,
     FilesInMemory, FilesSure, Gate, OpenGate, Sink, Source, StdError, StdInput, StdOutput,
 };

@@ -1,9 +1,9 @@
-use Rattle.std.proofs.Common.{◌≡◌, refl, ◌∙◌, rules, true}
+use Rattle.std.proofs.Common.{◌≡◌, refl, ◌∙◌, arith, rules, true}
 use Rattle.std.specs.Prelude.{is_some}
 use Rattle.dc_tree.specs.Blocks.{source_of}
 use Rattle.dc_tree.specs.SmallPrograms.{is_small_program}
 use Rattle.dc_meaning.specs.Alone.{nth_loop}
-use Rattle.docon_rows.proofs.plain_judge.judged.Goals as goal
+use Rattle.judge_rows.proofs.plain_judge.judged.Goals as goal
 
 pub plain_verdict-requires : goal.plain_verdict-requires
 plain_verdict-requires c =
@@ -12,5 +12,5 @@ plain_verdict-requires c =
       form = (λ i. is_small_program (c.symbols-symbols.ensures.value i) (source_of (c.program-program.ensures.value i))) ∙ c.symbols-symbols.ensures.small;
       loop = there;
       one = refl;
-      few = c.requires;
+      few = omega arith;
     }
