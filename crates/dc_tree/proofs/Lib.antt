@@ -2,6 +2,7 @@ pub mod Back
 pub mod BlocksBack
 mod ConstantExamples
 mod Examples
+mod FindingExamples
 pub mod Findings
 pub mod Names
 pub mod Places
