@@ -1,6 +1,7 @@
 pub mod Answered
+pub mod Headline
 pub mod Playing
 pub mod ReportLine
 pub mod Running
 pub mod Sample
-pub mod VisitOrders
+pub mod Visits
