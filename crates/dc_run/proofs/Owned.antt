@@ -15,8 +15,8 @@ use Rattle.dc_code.specs.Computation.{done, over}
 use Rattle.dc_code.specs.Inner.{judging}
 use Rattle.dc_code.specs.Laws.{Made}
 use Rattle.dc_code.specs.Loops.{Parts, Opened, opened}
-use Rattle.dc_code.specs.Verdicts.{Verdict, go_on, at_header, in_iteration, race, verdict}
-use Rattle.dc_code.specs.Visits.{Visited, visited, visited_by}
+use Rattle.dc_code.specs.Verdicts.{Verdict, go_on, at_header, in_iteration, race, verdict, visited_by}
+use Rattle.dc_code.specs.Visits.{Visited, visited}
 use Rattle.dc_code.proofs.Judged.{race-names}
 use Rattle.dc_code.proofs.Orders.{race-in_order}
 use Rattle.dc_tree.specs.declared.symbols.Symbol.{Symbol}
