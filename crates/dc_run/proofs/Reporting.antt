@@ -2,7 +2,7 @@
 use Rattle.std.proofs.Common.{◌≡◌, ◌≢◌, ℕ, Bool, true, false, List, [], ◌∷◌, All, Some, None, Result, Ok, Err, refl, sym, ap, subst, ◌∙◌, inl, inr}
 use Rattle.std.proofs.lemmas.List.Elements.{All-nil, All-cons}
 use Rattle.std.proofs.lemmas.Option.{none-some}
-use Rattle.std.specs.Prelude.{ℤ, pos, nat_le, map, if◌then◌else◌}
+use Rattle.std.specs.Prelude.{◌⊎◌, ℤ, pos, nat_le, map, if◌then◌else◌}
 use Rattle.dc_int.specs.declared.access.ElementId.{ElementId}
 use Rattle.dc_int.specs.declared.fault.FaultKind.{FaultKind}
 use Rattle.dc_int.specs.declared.fault.Why.{Why}
@@ -10,17 +10,18 @@ use Rattle.dc_int.specs.Sorts.{Sort}
 use Rattle.dc_int.specs.Store.{Store, value_at, put_at, bounds_of}
 use Rattle.dc_code.specs.declared.verdict.Verdict as answers
 use Rattle.dc_code.specs.Computation.{give, fail, read, define, undefine, contribute, ask, pause}
-use Rattle.dc_code.specs.EveryOrder.{SaysOfOrders}
-use Rattle.dc_code.specs.Inner.{judging}
+use Rattle.dc_code.specs.EveryOrder.{SaysOfOrders, TellsHeader, TellsOrders}
+use Rattle.dc_code.specs.Inner.{judging, parts, greatest_depth}
+use Rattle.dc_code.specs.Loops.{Parts}
 use Rattle.dc_code.specs.Troubles.{Trouble, raced, inside, Computing, Slots, Event, write_line, take_value, take_elements, end_reading, enter_loop, stop}
 use Rattle.dc_code.specs.Verdicts.{Verdict, go_on, at_header, in_iteration, race, side, trouble_in}
-use Rattle.dc_code.specs.Visits.{Visited}
+use Rattle.dc_code.specs.Visits.{Visited, visited}
 use Rattle.dc_lists.specs.Input as input
 use Rattle.dc_lists.specs.Output.{line_of}
 use Rattle.dc_tree.specs.declared.symbols.Symbol.{Symbol}
 use Rattle.dc_tree.specs.Blocks.{Source}
 use Rattle.dc_tree.specs.SmallPrograms.{is_small_program}
-use Rattle.dc_meaning.specs.Programs.{first_store, main_computation}
+use Rattle.dc_meaning.specs.Programs.{first_store, main_computation, program_forms}
 use Rattle.dc_meaning.proofs.EveryOrder.{loop-says}
 use Rattle.dc_run.specs.declared.ending.Ending as endings
 use Rattle.dc_run.specs.declared.running.RunOut.{RunOut}
@@ -29,7 +30,7 @@ use Rattle.dc_run.specs.Headline.{Reports}
 use Rattle.dc_run.specs.Playing.{Visit, bounds_in, Outcome, Standing, Looping, piece_text, greatest_output, ends_with, behind_output, behind_visit, fails_with, with_input, with_store, takes_one, takes_each, ends_reading, behind_loop, answered, played, looping_by, run}
 use Rattle.dc_run.specs.ReportLine.{Ending, done, bad, stopped, outside_names}
 use Rattle.dc_run.specs.ReportLine as lines
-use Rattle.dc_run.specs.Visits.{loop_at, IsJudged, WentOn, EndsOutsideLoops, EndsBy}
+use Rattle.dc_run.specs.Visits.{loop_at, IsJudged, HoldsAt, in_header, in_orders, WentOn, EndsOutsideLoops, EndsBy}
 
 abbrev visit_by : ℕ → Slots → ℕ → Store → Visited → Visit
 visit_by number slots turns store found = record { loop = number; inside = slots; turns = turns; opening = store; verdict = found.verdict; after = found.store }
@@ -149,8 +150,16 @@ module _ (looping : Looping) (names : List (List ℕ)) (P : Visit → Type 0)
 
 -- ---- a program
 
-abbrev Says : List Symbol → Source → ℕ → Visit → Type 0
-Says symbols source turns visit = SaysOfOrders (loop_at symbols source turns visit) visit.turns visit.opening
+abbrev Holds : List Symbol → Source → ℕ → Visit → Type 0
+Holds symbols source turns visit = HoldsAt (loop_at symbols source turns visit) visit
+
+-- what is said of a loop, at its visit
+said-at : (loop : Parts) (number : ℕ) (slots : Slots) (turns : ℕ) (store : Store) → SaysOfOrders loop turns store → HoldsAt loop (visit_by number slots turns store (visited judging loop turns store))
+said-at loop number slots turns store says = by says.says
+  where
+    by : TellsHeader loop turns store ⊎ TellsOrders loop turns store → HoldsAt loop (visit_by number slots turns store (visited judging loop turns store))
+    by (inl header) = in_header header.trouble header.met header.is
+    by (inr orders) = in_orders orders.opening orders.opens orders.holds
 
 run-reports : (symbols : List Symbol) (source : Source) (turns : ℕ) (given : List ℕ) → is_small_program symbols source ≡ true
     → Reports symbols source turns given (run judging symbols source turns given).output (run judging symbols source turns given).ending
@@ -159,7 +168,8 @@ run-reports symbols source turns given small =
     let names = outside_names symbols in
     let at : Standing = record { store = first_store symbols; input = given; used = 0 } in
     let judged = good-play looping names (IsJudged symbols source turns) (λ number slots left store. record { said = refl; left = refl }) at (main_computation symbols source turns) in
-    let says = good-play looping names (Says symbols source turns) (λ number slots left store. loop-says symbols source small turns number slots left store) at (main_computation symbols source turns) in
+    let says = good-play looping names (Holds symbols source turns)
+    (λ number slots left store. said-at (parts judging (program_forms symbols source turns) greatest_depth number slots) number slots left store (loop-says symbols source small turns number slots left store)) at (main_computation symbols source turns) in
     record { visits = (run judging symbols source turns given).visits; is = refl; ends = judged.ends; judged = judged.each; orders = says.each }
 
 -- What the code answers, where it is what the run of the definition writes and how that ends.

@@ -1,16 +1,19 @@
 -- The loops that a run reaches: what each leaves, and how the run ends with them. This project's own, on
 -- ISO/IEC 1539-1:2023, clause 11.1.7.4.
 use Rattle.std.specs.Prelude.{◌≡◌, ℕ, List, [], ◌∷◌, ◌++◌, All, Some, ◌⊎◌}
+use Rattle.dc_code.specs.Computation.{done, bad, over}
+use Rattle.dc_code.specs.EveryOrder.{HoldsInOrders}
 use Rattle.dc_code.specs.Inner.{judging, parts, greatest_depth}
-use Rattle.dc_code.specs.Loops.{Parts}
+use Rattle.dc_code.specs.Loops.{Parts, Opened, opened}
 use Rattle.dc_code.specs.Troubles.{Trouble}
-use Rattle.dc_code.specs.Verdicts.{go_on, trouble_in}
+use Rattle.dc_code.specs.Verdicts.{go_on, at_header, trouble_in}
 use Rattle.dc_code.specs.Visits.{visited}
 use Rattle.dc_tree.specs.declared.symbols.Symbol.{Symbol}
 use Rattle.dc_tree.specs.Blocks.{Source}
 use Rattle.dc_meaning.specs.Programs.{program_forms}
 use Rattle.dc_run.specs.Playing.{Visit, bounds_in}
-use Rattle.dc_run.specs.ReportLine.{Ending, done, bad, stopped, trouble_text, report_line}
+use Rattle.dc_run.specs.ReportLine.{Ending, stopped, trouble_text, report_line}
+use Rattle.dc_run.specs.ReportLine as endings
 
 -- The loop of a visit, with those inside it.
 abbrev pub loop_at : List Symbol → Source → ℕ → Visit → Parts
@@ -22,14 +25,23 @@ pub record IsJudged (symbols : List Symbol) (source : Source) (turns : ℕ) (vis
   pub said : (visited judging (loop_at symbols source turns visit) visit.turns visit.opening).verdict ≡ visit.verdict
   pub left : (visited judging (loop_at symbols source turns visit) visit.turns visit.opening).store ≡ visit.after
 
+-- What is said at a visit holds. Its loop's header meets the trouble that is told, which belongs to no iteration; or
+-- the header gives iterations, and what is told holds in every order of these: where the loop goes on, each order
+-- ends with the store after the visit.
+pub data HoldsAt (loop : Parts) (visit : Visit) : Type 0 where
+  in_header : (trouble : Trouble) → (over visit.opening (opened loop.form visit.turns)).reached ≡ bad trouble → visit.verdict ≡ at_header trouble → HoldsAt loop visit
+  in_orders
+      : (opening : Opened) → (over visit.opening (opened loop.form visit.turns)).reached ≡ done opening
+      → HoldsInOrders loop visit.opening opening.iterations visit.after visit.verdict → HoldsAt loop visit
+
 abbrev pub WentOn : Visit → Type 0
 WentOn visit = visit.verdict ≡ go_on
 
 -- A run that no loop stopped.
 abbrev pub EndsOutsideLoops : Ending → Type 0
-EndsOutsideLoops done = Unit {0}
-EndsOutsideLoops (bad failure) = Unit {0}
-EndsOutsideLoops (stopped verdict bounds) = ⊥
+EndsOutsideLoops endings.done = Unit {0}
+EndsOutsideLoops (endings.bad failure) = Unit {0}
+EndsOutsideLoops (endings.stopped verdict bounds) = ⊥
 
 -- Each loop that the run reached went on, and no loop stopped the run.
 pub record AllWentOn (visits : List Visit) (ending : Ending) : Type 0 where
