@@ -11,7 +11,7 @@ use Rattle.dc_int.specs.Entries.{Entry, Reads, Defines, Undefines, Contributes, 
 use Rattle.dc_int.specs.Store.{Store, cell_of, same_element, elements_of}
 use Rattle.dc_int.proofs.Elements.{store-same, length-after, elements-complete}
 use Rattle.dc_int.proofs.Stores.{cell-after, same_element-is}
-use Rattle.dc_code.specs.Closing.{Localities, is_touched_twice, is_unspecified, forgotten, reduced, reductions, passed_on, changes, closing}
+use Rattle.dc_code.specs.Closing.{Localities, is_touched_twice, is_unspecified, forgotten, reduced, reductions, is_contribution_to, passed_to, passed_on, changes, closing}
 use Rattle.dc_code.specs.Laws.{IsOwn, HoldsOwn, may_touch}
 use Rattle.dc_code.specs.Pairs.{clashes}
 use Rattle.dc_code.proofs.Alone.{left_by}
@@ -43,27 +43,38 @@ state-undefined x line (y ∷ elements) state =
     by false b = refl
 
 -- contributions leave what they meet
-state-passed_entries
-    : (known : Localities) (x : ElementId) (run : List Entry) (state : Option ℤ) → state_after x (filter_map (passed_on known) run) state ≡ state
-state-passed_entries known x [] state = refl
-state-passed_entries known x (Reads y line ∷ run) state = state-passed_entries known x run state
-state-passed_entries known x (Defines y value line ∷ run) state = state-passed_entries known x run state
-state-passed_entries known x (Undefines y line ∷ run) state = state-passed_entries known x run state
-state-passed_entries known x (Contributes y op value ∷ run) state = by (known.passed y.variable) refl (state-passed_entries known x run state)
+state-contributions
+    : (x y : ElementId) (run : List Entry) (state : Option ℤ) → state_after x (filter (is_contribution_to y) run) state ≡ state
+state-contributions x y [] state = refl
+state-contributions x y (Reads z line ∷ run) state = state-contributions x y run state
+state-contributions x y (Defines z value line ∷ run) state = state-contributions x y run state
+state-contributions x y (Undefines z line ∷ run) state = state-contributions x y run state
+state-contributions x y (Contributes z op value ∷ run) state = by (same_element y z) (state-contributions x y run state)
   where
     by
-        : (b : Bool) → known.passed y.variable ≡ b → state_after x (filter_map (passed_on known) run) state ≡ state
-        → state_after x (filter_map (passed_on known) (Contributes y op value ∷ run)) state ≡ state
-    by true is rest = rw is rest
-    by false is rest = rw is rest
+        : (b : Bool) → state_after x (filter (is_contribution_to y) run) state ≡ state
+        → state_after x (if b then Contributes z op value ∷ filter (is_contribution_to y) run else filter (is_contribution_to y) run) state ≡ state
+    by true rest = rest
+    by false rest = rest
+
+state-contributed
+    : (x y : ElementId) (runs : List (List Entry)) (state : Option ℤ) → state_after x (flat_map (filter (is_contribution_to y)) runs) state ≡ state
+state-contributed x y [] state = refl
+state-contributed x y (run ∷ runs) state =
+    state-append x (filter (is_contribution_to y) run) (flat_map (filter (is_contribution_to y)) runs) state
+    ∙ ap (state_after x (flat_map (filter (is_contribution_to y)) runs)) (state-contributions x y run state) ∙ state-contributed x y runs state
 
 state-passed
-    : (known : Localities) (x : ElementId) (runs : List (List Entry)) (state : Option ℤ)
-    → state_after x (flat_map (filter_map (passed_on known)) runs) state ≡ state
-state-passed known x [] state = refl
-state-passed known x (run ∷ runs) state =
-    state-append x (filter_map (passed_on known) run) (flat_map (filter_map (passed_on known)) runs) state
-    ∙ ap (state_after x (flat_map (filter_map (passed_on known)) runs)) (state-passed_entries known x run state) ∙ state-passed known x runs state
+    : (known : Localities) (x : ElementId) (runs : List (List Entry)) (elements : List ElementId) (state : Option ℤ)
+    → state_after x (flat_map (passed_to known runs) elements) state ≡ state
+state-passed known x runs [] state = refl
+state-passed known x runs (y ∷ elements) state =
+    state-append x (passed_to known runs y) (flat_map (passed_to known runs) elements) state
+    ∙ ap (state_after x (flat_map (passed_to known runs) elements)) (by (known.passed y.variable)) ∙ state-passed known x runs elements state
+  where
+    by : (b : Bool) → state_after x (if b then flat_map (filter (is_contribution_to y)) runs else []) state ≡ state
+    by true = state-contributed x y runs state
+    by false = refl
 
 any-filter
     : (x : ElementId) (test : ElementId → Bool) (elements : List ElementId)
@@ -96,13 +107,13 @@ state-changed
     ≡ state_after x (reductions known line runs store) (cond (is_unspecified (known.locality x.variable) && is_touched_twice x runs) None state)
 state-changed known line runs store x state some =
     let undefined = map (λ y. Undefines y line) (forgotten known runs store) in
-    let passed = flat_map (filter_map (passed_on known)) runs in
+    let passed = passed_on known runs store in
     let defined = reductions known line runs store in
     let test : ElementId → Bool = λ y. is_unspecified (known.locality y.variable) && is_touched_twice y runs in
     let among : list_any (same_element x) (forgotten known runs store) ≡ test x =
     any-filter x test (elements_of store) ∙ ap (λ b. b && test x) (elements-complete store x some) in
     state-append x undefined (passed ++ defined) state ∙ state-append x passed defined (state_after x undefined state)
-    ∙ ap (state_after x defined) (state-passed known x runs (state_after x undefined state)
+    ∙ ap (state_after x defined) (state-passed known x runs (elements_of store) (state_after x undefined state)
     ∙ state-undefined x line (forgotten known runs store) state ∙ ap (λ b. cond b None state) among)
 
 -- The reductions are made for runs and for a permutation of them, or for neither.

@@ -1,15 +1,16 @@
 -- What is said of a loop of the main program holds in every order of its iterations.
-use Rattle.std.proofs.Common.{◌≡◌, ℕ, refl}
+use Rattle.std.proofs.Common.{◌≡◌, ◌⊎◌, inl, inr, ℕ, refl, ap}
 use Rattle.dc_int.specs.Store.{Store}
-use Rattle.dc_code.specs.EveryOrder.{HoldsInOrders, SaysOfOrders}
+use Rattle.dc_code.specs.Computation.{Reached, done, bad, paused, over}
+use Rattle.dc_code.specs.EveryOrder.{HoldsInOrders, TellsHeader, TellsOrders, SaysOfOrders}
 use Rattle.dc_code.specs.Laws.{IsFramed, DiffersAtRead, TouchesOwn, HoldsOwn}
-use Rattle.dc_code.specs.Loops.{Opened, Parts}
-use Rattle.dc_code.specs.Verdicts.{Verdict, go_on, at_header, in_iteration, race, verdict}
-use Rattle.dc_code.specs.Visits.{visited_by}
+use Rattle.dc_code.specs.Loops.{Opened, opened, Parts}
+use Rattle.dc_code.specs.Troubles.{Trouble}
+use Rattle.dc_code.specs.Verdicts.{Verdict, go_on, at_header, in_iteration, race, verdict, visited_by, judged_by}
 use Rattle.dc_code.proofs.GoesOn.{goes-on_alike}
 use Rattle.dc_code.proofs.Judged.{race-names}
 use Rattle.dc_code.proofs.Orders.{bad-ends, race-in_order}
-use Rattle.dc_code.proofs.Verdicts.{told-place}
+use Rattle.dc_code.proofs.Verdicts.{told-place, told-no_header}
 
 module _ (loop : Parts) (store : Store) (framed : IsFramed loop) (differs : DiffersAtRead loop) (own : TouchesOwn loop store)
     (holds : HoldsOwn loop.form.known store) where
@@ -21,7 +22,7 @@ module _ (loop : Parts) (store : Store) (framed : IsFramed loop) (differs : Diff
         let alike = goes-on_alike loop store framed differs own holds opening.iterations is ordered permuted in
         record { well = alike.trouble; unbroken = alike.unbroken; closing = alike.closing };
   }
-  verdict-holds opening (at_header trouble) is = tt
+  verdict-holds opening (at_header trouble) is = told-no_header loop store opening.iterations trouble is
   verdict-holds opening (in_iteration met at) is =
       let found = told-place loop store opening.iterations met at is in
       record { place = found.0; is = found.1; each = λ rest. bad-ends loop store opening.iterations met at is rest }
@@ -31,6 +32,15 @@ module _ (loop : Parts) (store : Store) (framed : IsFramed loop) (differs : Diff
   }
 
   pub says-of-orders : (turns : ℕ) → SaysOfOrders loop turns store
-  says-of-orders turns = record {
-    says = λ opening reached. rw reached (verdict-holds opening (verdict loop store opening.iterations) refl);
-  }
+  says-of-orders turns = record { says = by (over store (opened loop.form turns)).reached refl }
+    where
+      by
+          : (reached : Reached ⊥ Trouble Opened) → (over store (opened loop.form turns)).reached ≡ reached
+          → TellsHeader loop turns store ⊎ TellsOrders loop turns store
+      by (bad trouble) is = inl (record { trouble = trouble; met = is; is = ap (λ r. (judged_by loop store r).verdict) is })
+      by (done opening) is = inr (record {
+        opening = opening;
+        opens = is;
+        holds = rw is (verdict-holds opening (verdict loop store opening.iterations) refl);
+      })
+      by (paused event rest) is = absurd event

@@ -12,7 +12,7 @@ use Rattle.dc_code.specs.Laws.{alone_runs, EndWell}
 use Rattle.dc_code.specs.Loops.{Parts, Passage, alone, order}
 use Rattle.dc_code.specs.Pairs.{first_clash, pair}
 use Rattle.dc_code.specs.Troubles.{Trouble}
-use Rattle.dc_code.specs.Verdicts.{Verdict, go_on, in_iteration, race, first_of, or_later, bad_iteration, race_in, race_between, race_among, verdict}
+use Rattle.dc_code.specs.Verdicts.{Verdict, go_on, at_header, in_iteration, race, first_of, or_later, bad_iteration, race_in, race_between, race_among, verdict}
 
 -- What is handed on came of something.
 pub record HandedOn {A B : Type 0} (option : Option A) (next : A → Option B) (b : B) : Type 0 where
@@ -208,6 +208,43 @@ told-race parts store iterations found first second told =
     by None bad_is (Some said) raced_is e =
         race-among parts store iterations (alone_runs parts store iterations) (race found first second) (raced_is ∙ ap (λ (v : Verdict). Some v) e)
     by None bad_is None raced_is e = cc
+
+-- ---- iterations have no header
+
+abbrev is_at_header : Verdict → Bool
+is_at_header (at_header trouble) = true
+is_at_header said = false
+
+bad-no_header
+    : (iterations : List (List ℤ)) (passages : List Passage) (said : Verdict) → bad_iteration iterations passages ≡ Some said
+    → is_at_header said ≡ false
+bad-no_header [] passages said e = absurd (none-some said e)
+bad-no_header (at ∷ rest) [] said e = absurd (none-some said e)
+bad-no_header (at ∷ rest) (passage ∷ passages) said e = by passage.trouble e (bad-no_header rest passages said)
+  where
+    by
+        : (trouble : Option Trouble) → or_later at trouble (bad_iteration rest passages) ≡ Some said
+        → (bad_iteration rest passages ≡ Some said → is_at_header said ≡ false) → is_at_header said ≡ false
+    by (Some met) e later = ap is_at_header (sym (same_Some (in_iteration met at) said e))
+    by None e later = later e
+
+-- A verdict on iterations is no header's trouble.
+pub told-no_header
+    : (parts : Parts) (store : Store) (iterations : List (List ℤ)) (trouble : Trouble) → verdict parts store iterations ≡ at_header trouble → ⊥
+told-no_header parts store iterations trouble told =
+    by (bad_iteration iterations (map (alone parts store) iterations)) refl
+    (race_among parts store iterations (alone_runs parts store iterations)) refl told
+  where
+    by
+        : (bad : Option Verdict) → bad_iteration iterations (map (alone parts store) iterations) ≡ bad
+        → (raced : Option Verdict) → race_among parts store iterations (alone_runs parts store iterations) ≡ raced
+        → first_of bad raced ≡ at_header trouble → ⊥
+    by (Some said) bad_is raced raced_is e =
+        false≢true (sym (bad-no_header iterations (map (alone parts store) iterations) said bad_is) ∙ ap is_at_header e)
+    by None bad_is (Some said) raced_is e =
+        let among = race-among parts store iterations (alone_runs parts store iterations) said raced_is in
+        false≢true (sym (ap is_at_header among.between.said_is) ∙ ap is_at_header e)
+    by None bad_is None raced_is e = false≢true (ap is_at_header e)
 
 -- ---- a loop that goes on
 

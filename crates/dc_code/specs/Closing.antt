@@ -70,18 +70,27 @@ reductions known line runs store = filter_map (reduced known line runs store) (e
 
 -- ---- contributions that pass to the loop around
 
-abbrev pub passed_on : Localities → Entry → Option Entry
-passed_on known (Contributes x op value) = if known.passed x.variable then Some (Contributes x op value) else None
-passed_on known entry = None
+abbrev pub is_contribution_to : ElementId → Entry → Bool
+is_contribution_to x (Contributes y op value) = same_element x y
+is_contribution_to x entry = false
+
+-- The contributions to one element, where its reduction is that of a loop around, in the order of the runs.
+abbrev pub passed_to : Localities → List (List Entry) → ElementId → List Entry
+passed_to known runs x = if known.passed x.variable then flat_map (filter (is_contribution_to x)) runs else []
+
+-- All of these, the elements in store order.
+abbrev pub passed_on : Localities → List (List Entry) → Store → List Entry
+passed_on known runs store = flat_map (passed_to known runs) (elements_of store)
 
 -- ---- all changes, and the closing store
 
 -- The changes, as entries at the line of the header: what becomes undefined, what passes to the loop
--- around, and the reductions, each in store order.
+-- around, and the reductions. Each of the three is in store order, and the contributions to one element that
+-- pass are in the order of the runs.
 abbrev pub changes : Localities → ℕ → List (List Entry) → Store → List Entry
 changes known line runs store =
     map (λ x. Undefines x line) (forgotten known runs store)
-    ++ (flat_map (filter_map (passed_on known)) runs ++ reductions known line runs store)
+    ++ (passed_on known runs store ++ reductions known line runs store)
 
 -- The closing store, of the one that the iterations leave.
 abbrev pub closing : Localities → ℕ → List (List Entry) → Store → Store

@@ -1,6 +1,6 @@
 -- The values of the indexes of a loop, and their combinations. After ISO/IEC 1539-1:2023, clause
 -- 11.1.7.4; that the first index varies fastest is this project's own.
-use Rattle.std.specs.Prelude.{ℕ, zero, suc, List, [], ◌∷◌, ◌++◌, map, ℤ, pos, negsuc, ◌+ℤ◌, ◌-ℤ◌, int_div}
+use Rattle.std.specs.Prelude.{ℕ, zero, suc, Bool, true, false, List, [], ◌∷◌, ◌++◌, map, ℤ, pos, negsuc, ◌+ℤ◌, ◌-ℤ◌, int_div}
 
 -- The limits and the step of an index, each wrapped to the kind of the index.
 pub record Span : Type 0 where
@@ -12,7 +12,15 @@ abbrev pub at_least_none : ℤ → ℕ
 at_least_none (pos n) = n
 at_least_none (negsuc n) = 0
 
--- How many values the index takes, in exact numbers. The step is not zero.
+-- A step of zero, with which an index has no values: a loop whose header leaves one comes to a fault.
+abbrev pub has_zero_step : Span → Bool
+has_zero_step span = by span.step
+  where
+    by : ℤ → Bool
+    by (pos zero) = true
+    by step = false
+
+-- How many values the index takes, in exact numbers, where its step isn't zero.
 abbrev pub value_count : Span → ℕ
 value_count span = at_least_none (int_div ((span.last -ℤ span.first) +ℤ span.step) span.step)
 

@@ -1,11 +1,11 @@
 -- What the verdict on a loop of the main program says of every order of its iterations. This project's own, on
 -- ISO/IEC 1539-1:2023, clauses 11.1.7.4 and 11.1.7.5.
-use Rattle.std.specs.Prelude.{◌≡◌, ℕ, true, false, List, [], ◌∷◌, slice_get, Some, None, is_some, ℤ}
+use Rattle.std.specs.Prelude.{◌≡◌, ◌⊎◌, ℕ, true, false, List, [], ◌∷◌, slice_get, Some, None, is_some, ℤ}
 use Rattle.std.specs.List.Sorted.{IsPermutation}
 use Rattle.dc_int.specs.declared.access.ElementId.{ElementId}
 use Rattle.dc_int.specs.Store.{Store, cell_of}
 use Rattle.dc_code.specs.declared.verdict.Race.{Race}
-use Rattle.dc_code.specs.Computation.{done, over}
+use Rattle.dc_code.specs.Computation.{done, bad, over}
 use Rattle.dc_code.specs.Inner.{judging}
 use Rattle.dc_code.specs.Laws.{EndsAt, BeginsWithRace, NamesIterations}
 use Rattle.dc_code.specs.Loops.{Opened, opened, Parts, order, closed}
@@ -40,17 +40,27 @@ pub record BreaksAll (loop : Parts) (store : Store) (iterations : List (List ℤ
   pub names : NamesIterations found iterations first second
   pub each : (rest : List (List ℤ)) → BeginsWithRace loop.form.known.locality found (order loop [] store (first ∷ second ∷ rest))
 
--- What a verdict says of these iterations, and of the store behind the loop where it goes on. The trouble of
--- a header belongs to no iteration.
+-- What a verdict says of these iterations, and of the store behind the loop where it goes on. Of iterations no
+-- header's trouble is told.
 abbrev pub HoldsInOrders : Parts → Store → List (List ℤ) → Store → Verdict → Type 0
 HoldsInOrders loop store iterations after go_on = AllEndWith loop store iterations after
-HoldsInOrders loop store iterations after (at_header trouble) = Unit
+HoldsInOrders loop store iterations after (at_header trouble) = ⊥
 HoldsInOrders loop store iterations after (in_iteration met at) = EndsAll loop store iterations met at
 HoldsInOrders loop store iterations after (race found first second) = BreaksAll loop store iterations found first second
 
--- What is said of the loop, where it is reached with so many turns over this store, holds in every order of
--- the iterations that its header gives.
+-- The header meets trouble, which is what is told.
+pub record TellsHeader (loop : Parts) (turns : ℕ) (store : Store) : Type 0 where
+  pub trouble : Trouble
+  pub met : (over store (opened loop.form turns)).reached ≡ bad trouble
+  pub is : (visited judging loop turns store).verdict ≡ at_header trouble
+
+-- The header gives iterations, and what is told holds in every order of these.
+pub record TellsOrders (loop : Parts) (turns : ℕ) (store : Store) : Type 0 where
+  pub opening : Opened
+  pub opens : (over store (opened loop.form turns)).reached ≡ done opening
+  pub holds : HoldsInOrders loop store opening.iterations (visited judging loop turns store).store (visited judging loop turns store).verdict
+
+-- What is said of the loop, where it is reached with so many turns over this store: the trouble of its header,
+-- or what holds in every order of the iterations that its header gives.
 pub record SaysOfOrders (loop : Parts) (turns : ℕ) (store : Store) : Type 0 where
-  pub says
-      : (opening : Opened) → (over store (opened loop.form turns)).reached ≡ done opening
-      → HoldsInOrders loop store opening.iterations (visited judging loop turns store).store (visited judging loop turns store).verdict
+  pub says : TellsHeader loop turns store ⊎ TellsOrders loop turns store

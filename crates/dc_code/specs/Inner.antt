@@ -4,12 +4,12 @@ use Rattle.std.specs.Prelude.{ℕ, zero, suc, ◌-◌, Bool, false, List, [], �
 use Rattle.dc_int.specs.Entries.{Entry, Reads, Defines, firsts, exposes, last_states, settling, state_after, store_after}
 use Rattle.dc_int.specs.Store.{Store, value_at}
 use Rattle.dc_code.specs.Closing.{changes}
-use Rattle.dc_code.specs.Computation.{Run, Reached, done, bad, paused, over}
-use Rattle.dc_code.specs.Loops.{Form, Opened, opened, Orders, Passage, Parts, alone, Ordered, order}
+use Rattle.dc_code.specs.Computation.{Reached, done, bad, paused, over}
+use Rattle.dc_code.specs.Loops.{Form, Opened, opened, iterations_of, Orders, Passage, Parts, alone, Ordered, order}
 use Rattle.dc_code.specs.Orders.{as_ordered, turned}
-use Rattle.dc_code.specs.Passages.{Entering, ended_well, ended_badly, behind, through}
-use Rattle.dc_code.specs.Troubles.{Trouble, Slots, Event, inside}
-use Rattle.dc_code.specs.Verdicts.{verdict, trouble_in}
+use Rattle.dc_code.specs.Passages.{Entering, ended_well, through}
+use Rattle.dc_code.specs.Troubles.{Trouble, Slots, inside}
+use Rattle.dc_code.specs.Verdicts.{judgement, trouble_in}
 
 -- How loops are run: judged, or in the order of a number and not judged.
 pub data Rule : Type 0 where
@@ -55,48 +55,51 @@ abbrev pub by_entries : Store → List Entry → ℕ → Orders → Option Troub
 by_entries store entries turns orders trouble =
     record { entries = entries; store = store_after entries store; turns = turns; orders = orders; trouble = trouble }
 
--- A loop that the verdict ends: the block around makes the entries of the iterations taken alone.
-abbrev pub stopped : Parts → Store → Orders → List (List ℤ) → Trouble → Passage
-stopped parts store orders iterations trouble =
-    by_entries store (added parts.form.line (up_to_bad (map (alone parts store) iterations))) 0 orders (Some trouble)
+-- Everything below begins with the entries that the header of the loop made.
+
+-- A loop that ends with trouble: the block around makes the entries of these iterations.
+abbrev pub stopped : Parts → Store → List Entry → List (List Entry) → Orders → Trouble → Passage
+stopped parts store header runs orders trouble = by_entries store (header ++ added parts.form.line runs) 0 orders (Some trouble)
 
 -- A loop that goes on, by its iterations in an order: their entries, and the changes at its end.
-abbrev pub gone_on : Parts → Store → ℕ → Ordered → Passage
-gone_on parts store turns ordered =
+abbrev pub gone_on : Parts → Store → List Entry → ℕ → Ordered → Passage
+gone_on parts store header turns ordered =
     let line = parts.form.line in
-    by_entries store (added line ordered.runs ++ changes parts.form.known line ordered.runs ordered.store) turns ordered.orders None
+    by_entries store (header ++ (added line ordered.runs ++ changes parts.form.known line ordered.runs ordered.store)) turns ordered.orders None
+
+-- A loop that is judged: the trouble that the verdict tells of, with the iterations taken alone; or the
+-- iterations in the first of the orders.
+abbrev pub told_by : Parts → Store → List Entry → Orders → List (List ℤ) → ℕ → Option Trouble → Passage
+told_by parts store header orders iterations turns (Some trouble) =
+    stopped parts store header (up_to_bad (map (alone parts store) iterations)) orders trouble
+told_by parts store header orders iterations turns None =
+    gone_on parts store header turns (order parts (drop 1 orders) store (as_ordered orders iterations))
 
 -- A loop that isn't judged, by its iterations in an order.
-abbrev pub unjudged : Parts → Store → ℕ → List (List ℤ) → Ordered → Passage
-unjudged parts store turns iterations ordered = by ordered.trouble (slice_get iterations (length ordered.runs - 1))
+abbrev pub unjudged : Parts → Store → List Entry → ℕ → List (List ℤ) → Ordered → Passage
+unjudged parts store header turns iterations ordered = by ordered.trouble (slice_get iterations (length ordered.runs - 1))
   where
     by : Option Trouble → Option (List ℤ) → Passage
-    by (Some trouble) (Some at) = by_entries store (added parts.form.line ordered.runs) 0 ordered.orders (Some (inside at trouble))
-    by trouble at = gone_on parts store turns ordered
+    by (Some trouble) (Some at) = stopped parts store header ordered.runs ordered.orders (inside at trouble)
+    by trouble at = gone_on parts store header turns ordered
 
--- A loop that is judged: the trouble that the verdict tells of, or the iterations in the first of the
--- orders.
-abbrev pub told_by : Parts → Store → Orders → Opened → Option Trouble → Passage
-told_by parts store orders opening (Some trouble) = stopped parts store orders opening.iterations trouble
-told_by parts store orders opening None = gone_on parts store opening.turns (order parts (drop 1 orders) store (as_ordered orders opening.iterations))
-
-abbrev pub behind_header : Rule → Parts → Store → Orders → Opened → Passage
-behind_header judging parts store orders opening = told_by parts store orders opening (trouble_in (verdict parts store opening.iterations))
-behind_header (in_order number) parts store orders opening =
+-- In the order of a number, behind a header that ended so.
+abbrev pub unjudged_turned : ℕ → Parts → Store → List Entry → Orders → Reached ⊥ Trouble Opened → Passage
+unjudged_turned number parts store header orders (bad trouble) = stopped parts store header [] orders trouble
+unjudged_turned number parts store header orders (done opening) =
     let iterations = turned number opening.iterations in
-    unjudged parts store opening.turns iterations (order parts orders store iterations)
+    unjudged parts store header opening.turns iterations (order parts orders store iterations)
+unjudged_turned number parts store header orders (paused event rest) = absurd event
 
--- A loop inside, with the turns of the block around and the orders that are left.
+-- A loop inside, with the turns of the block around, the store with which it is reached, and the orders that
+-- are left. Its verdict is that of any loop.
 abbrev pub inner : Rule → Parts → ℕ → Store → Orders → Passage
-inner rule parts turns store orders = by (over store (opened parts.form turns))
-  where
-    by_reached : List Entry → Store → Reached Event Trouble Opened → Passage
-    by_reached entries after (done opening) = behind entries (behind_header rule parts after orders opening)
-    by_reached entries after (bad trouble) = behind entries (ended_badly after orders trouble)
-    by_reached entries after (paused event rest) = behind entries (ended_well after turns orders)
-
-    by : Run Event Trouble Opened → Passage
-    by run = by_reached run.entries run.store run.reached
+inner judging parts turns store orders =
+    let header = over store (opened parts.form turns) in
+    let said = judgement parts turns store in
+    told_by parts store header.entries orders (iterations_of header.reached) said.turns (trouble_in said.verdict)
+inner (in_order number) parts turns store orders =
+    let header = over store (opened parts.form turns) in unjudged_turned number parts store header.entries orders header.reached
 
 -- ---- the loops of a program
 

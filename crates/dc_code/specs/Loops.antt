@@ -1,15 +1,16 @@
 -- A loop: its header, an iteration alone, and iterations in an order over one store. After ISO/IEC
 -- 1539-1:2023, clause 11.1.7.4; the turns, the order of the header and the limit are this project's own.
-use Rattle.std.specs.Prelude.{ℕ, ◌*◌, Bool, true, false, nat_lt, List, [], ◌∷◌, Option, None, is_some, is_none, if◌then◌else◌, ℤ}
+use Rattle.std.specs.Prelude.{ℕ, ◌*◌, Bool, true, false, nat_lt, List, [], ◌∷◌, Option, None, is_some, is_none, if◌then◌else◌, ℤ, pos}
+use Rattle.std.specs.List.{list_any}
 use Rattle.dc_int.specs.declared.access.ElementId.{ElementId}
 use Rattle.dc_int.specs.declared.fault.FaultKind.{FaultKind}
 use Rattle.dc_int.specs.declared.fault.Why.{Why}
 use Rattle.dc_int.specs.Entries.{Entry}
 use Rattle.dc_int.specs.Store.{Store}
 use Rattle.dc_code.specs.Closing.{Localities, closing}
-use Rattle.dc_code.specs.Combinations.{Span, value_count, combinations}
-use Rattle.dc_code.specs.Computation.{Computation, give, fail, read, define, undefine, contribute, ask, pause, ◌>>=◌}
-use Rattle.dc_code.specs.Troubles.{Trouble, Computing, Event, ended, in_statement, in_mask}
+use Rattle.dc_code.specs.Combinations.{Span, has_zero_step, value_count, combinations}
+use Rattle.dc_code.specs.Computation.{Computation, Reached, done, give, fail, read, define, undefine, contribute, ask, pause, ◌>>=◌}
+use Rattle.dc_code.specs.Troubles.{Failure, Trouble, Computing, ended, in_statement, in_mask}
 
 -- What the states of the elements are that LOCAL_INIT entities take from the store.
 abbrev pub Copies : Type 0
@@ -29,20 +30,21 @@ pub record Form : Type 0 where
 
 -- ---- the header
 
--- The same computation, whose failures are told otherwise.
-abbrev pub retold : {E T U A : Type 0} → (T → U) → Computation E T A → Computation E U A
-retold tell (give a) = give a
-retold tell (fail trouble) = fail (tell trouble)
-retold tell (read x line rest) = read x line (λ state. retold tell (rest state))
-retold tell (define x value line rest) = define x value line (retold tell rest)
-retold tell (undefine x line rest) = undefine x line (retold tell rest)
-retold tell (contribute x op value rest) = contribute x op value (retold tell rest)
-retold tell (ask variable rest) = ask variable (λ bounds. retold tell (rest bounds))
-retold tell (pause event rest) = pause event (λ told. retold tell (rest told))
-
--- What the header of a loop does.
+-- What the header of a loop does. It comes to no pause: the standard has no statement in a header.
 abbrev pub Opening : Type 0 → Type 0
-Opening A = Computation Event Trouble A
+Opening A = Computation ⊥ Trouble A
+
+-- A part of a source or a code as a part of the header, with its failures told as the header's. A pause, to
+-- which no limit and no mask comes, is told 0, as one of a block is.
+abbrev pub in_header : {A : Type 0} → (Failure → Trouble) → Computing A → Opening A
+in_header tell (give a) = give a
+in_header tell (fail failure) = fail (tell failure)
+in_header tell (read x line rest) = read x line (λ state. in_header tell (rest state))
+in_header tell (define x value line rest) = define x value line (in_header tell rest)
+in_header tell (undefine x line rest) = undefine x line (in_header tell rest)
+in_header tell (contribute x op value rest) = contribute x op value (in_header tell rest)
+in_header tell (ask variable rest) = ask variable (λ bounds. in_header tell (rest bounds))
+in_header tell (pause event rest) = in_header tell (rest (pos 0))
 
 abbrev pub combination_count : List Span → ℕ
 combination_count [] = 1
@@ -51,16 +53,23 @@ combination_count (span ∷ spans) = value_count span * combination_count spans
 abbrev pub greatest_count : ℕ
 greatest_count = 4194304
 
--- The combinations, unless there are too many.
+-- A fault of the header itself.
+abbrev pub header_fault : {A : Type 0} → FaultKind → ℕ → Opening A
+header_fault kind line = fail (ended (Why.Fault kind) line [])
+
+-- The combinations, unless a step is zero or there are too many. The header of a source finds a zero step by
+-- itself, before it goes on to the next index; here it is found where a header leaves one.
 abbrev pub combined_values : ℕ → List Span → Opening (List (List ℤ))
 combined_values line spans =
-    if nat_lt greatest_count (combination_count spans) then fail (ended (Why.Fault FaultKind.TooManyIterations) line []) else give (combinations spans)
+    if list_any has_zero_step spans then header_fault FaultKind.StepZero line
+    else if nat_lt greatest_count (combination_count spans) then header_fault FaultKind.TooManyIterations line
+    else give (combinations spans)
 
 -- Those of the combinations for which the mask is true.
 abbrev pub active : (List ℤ → Computing Bool) → List (List ℤ) → Opening (List (List ℤ))
 active mask [] = give []
 active mask (at ∷ rest) = do
-  holds ← retold (in_mask at) (mask at)
+  holds ← in_header (in_mask at) (mask at)
   others ← active mask rest
   give (if holds then at ∷ others else others)
 
@@ -76,21 +85,26 @@ begun form [] = give tt
 begun form iterations = do
   copied ← read_all form.line form.copied
   defined ← read_all form.line form.combines
-  if defined then give tt else fail (ended (Why.Fault FaultKind.Undefined) form.line [])
+  if defined then give tt else header_fault FaultKind.Undefined form.line
 
 -- The iterations, each by the values of its indexes, and the turns left.
 pub record Opened : Type 0 where
   pub iterations : List (List ℤ)
   pub turns : ℕ
 
--- The header: the limits and steps, the number of combinations, the mask of each, and the reductions.
+-- The header: the limits and steps, the combinations, the mask of each, and the reductions.
 abbrev pub opened : Form → ℕ → Opening Opened
 opened form turns = do
-  (spans, left) ← retold in_statement (form.header turns)
+  (spans, left) ← in_header in_statement (form.header turns)
   values ← combined_values form.line spans
   iterations ← active form.mask values
   ready ← begun form iterations
   give (record { iterations = iterations; turns = left })
+
+-- The iterations that a header gives, and none where it met trouble.
+abbrev pub iterations_of : Reached ⊥ Trouble Opened → List (List ℤ)
+iterations_of (done opening) = opening.iterations
+iterations_of other = []
 
 -- ---- iterations
 

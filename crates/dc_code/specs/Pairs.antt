@@ -34,8 +34,8 @@ abbrev pub ends_of : (List Entry → Bool) → List (List Entry) → Option Ends
 ends_of test [] = None
 ends_of test (run ∷ runs) = widened (test run) (ends_of test runs)
 
--- touchers and readers: the first reader that isn't the least toucher, or the least reader behind
--- the greatest toucher
+-- A toucher and an exposed reader that are two iterations: the least toucher with the least reader or, where
+-- these are one, with the greatest reader; and where that is the same one too, the greatest toucher with it.
 abbrev pub with_reader : Ends → Ends → ℕ × ℕ
 with_reader touchers readers =
     if not (same readers.least touchers.least) then (touchers.least, readers.least)

@@ -1,6 +1,6 @@
--- The verdict on a loop: the first of these that applies. The header's trouble; the trouble of the least
--- iteration that, alone, doesn't end well; a race; or that the loop goes on. This project's own, on the
--- restrictions of ISO/IEC 1539-1:2023, clause 11.1.7.5.
+-- The verdict on a loop, whole: `judgement`, the first that applies of the header's trouble, the trouble of the
+-- least iteration that, alone, doesn't end well, a race, and that the loop goes on with its closing store. This
+-- project's own, on the restrictions of ISO/IEC 1539-1:2023, clause 11.1.7.5.
 use Rattle.std.specs.Prelude.{ℕ, List, [], ◌∷◌, map, slice_get, Option, Some, None, option_and_then, ℤ}
 use Rattle.dc_int.specs.declared.access.Access.{Access}
 use Rattle.dc_int.specs.declared.fault.Why.{Why}
@@ -11,7 +11,8 @@ use Rattle.dc_code.specs.declared.verdict.Party.{Party}
 use Rattle.dc_code.specs.declared.verdict.Race.{Race}
 use Rattle.dc_code.specs.declared.verdict.Verdict as answers
 use Rattle.dc_code.specs.Breaks.{first_break, named_beside}
-use Rattle.dc_code.specs.Loops.{Parts, Passage, alone, order}
+use Rattle.dc_code.specs.Computation.{Reached, done, bad, paused, over}
+use Rattle.dc_code.specs.Loops.{Parts, Passage, Opened, opened, alone, order, closed}
 use Rattle.dc_code.specs.Pairs.{first_clash, pair}
 use Rattle.dc_code.specs.Troubles.{Trouble, Side, ended, masked, raced, inside}
 
@@ -70,7 +71,7 @@ race_among parts store iterations runs = do
   named ← pair (parts.form.known.locality x.variable) x runs
   race_between parts store iterations named
 
--- ---- the verdict
+-- ---- the verdict on iterations
 
 abbrev pub first_of : Option Verdict → Option Verdict → Verdict
 first_of (Some verdict) other = verdict
@@ -85,6 +86,39 @@ judged parts store iterations passages =
 -- The verdict on these iterations, over the store with which the loop is reached.
 abbrev pub verdict : Parts → Store → List (List ℤ) → Verdict
 verdict parts store iterations = judged parts store iterations (map (alone parts store) iterations)
+
+-- ---- the verdict on a loop
+
+-- What is said of a loop, and the store and the turns behind it.
+pub record Visited : Type 0 where
+  pub verdict : Verdict
+  pub store : Store
+  pub turns : ℕ
+
+-- Where a loop doesn't go on, the store stays.
+abbrev pub stays : Store → Verdict → Visited
+stays store said = record { verdict = said; store = store; turns = 0 }
+
+-- By the verdict on the iterations that a header gave. Where the loop goes on, the store behind it is the
+-- closing store of the iterations in ascending order.
+abbrev pub visited_by : Parts → Store → Opened → Verdict → Visited
+visited_by loop store opening go_on = record { verdict = go_on; store = closed loop (order loop [] store opening.iterations); turns = opening.turns }
+visited_by loop store opening said = stays store said
+
+-- By how the header ended: with its trouble, or with the iterations.
+abbrev pub judged_by : Parts → Store → Reached ⊥ Trouble Opened → Visited
+judged_by loop store (bad trouble) = stays store (at_header trouble)
+judged_by loop store (done opening) = visited_by loop store opening (verdict loop store opening.iterations)
+judged_by loop store (paused event rest) = absurd event
+
+-- The verdict on a loop that is reached with so many turns over this store, and what is behind it: the first of
+-- these that applies.
+-- 1. The header's trouble.
+-- 2. The trouble of the least iteration that, alone, doesn't end well.
+-- 3. A race, where an element clashes.
+-- 4. The loop goes on, with the closing store.
+abbrev pub judgement : Parts → ℕ → Store → Visited
+judgement loop turns store = judged_by loop store (over store (opened loop.form turns)).reached
 
 -- ---- as trouble
 

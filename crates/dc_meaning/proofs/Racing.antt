@@ -9,7 +9,7 @@ use Rattle.dc_int.specs.Entries.{Entry, Reads, Defines, Undefines, Contributes, 
 use Rattle.dc_int.specs.Store.{Store, elements_of}
 use Rattle.dc_int.proofs.Elements.{elements-after}
 use Rattle.dc_code.specs.declared.verdict.Race.{Race}
-use Rattle.dc_code.specs.Closing.{Localities, is_touched_twice, passed_on, reduced, reductions, closing}
+use Rattle.dc_code.specs.Closing.{Localities, is_touched_twice, passed_to, reduced, reductions, closing}
 use Rattle.dc_code.specs.declared.verdict.Verdict as answers
 use Rattle.dc_code.specs.Loops.{Passage, Parts, alone, Ordered, Orders, behind_one, nothing_done, order, closed}
 use Rattle.dc_code.specs.Troubles.{Trouble, ended}
@@ -93,16 +93,10 @@ both-there parts store active (i, j) f s first second =
 
 -- ---- the closing store
 
-nothing-passed : (known : Localities) (entries : List Entry) → filter_map (passed_on (record { locality = known.locality; kind = known.kind; passed = λ variable. false })) entries ≡ []
-nothing-passed known [] = refl
-nothing-passed known (Reads x line ∷ entries) = nothing-passed known entries
-nothing-passed known (Defines x value line ∷ entries) = nothing-passed known entries
-nothing-passed known (Undefines x line ∷ entries) = nothing-passed known entries
-nothing-passed known (Contributes x op value ∷ entries) = nothing-passed known entries
-
-none-passed : (known : Localities) (runs : List (List Entry)) → flat_map (filter_map (passed_on (record { locality = known.locality; kind = known.kind; passed = λ variable. false }))) runs ≡ []
-none-passed known [] = refl
-none-passed known (run ∷ runs) = (λ i. nothing-passed known run i ++ none-passed known runs i)
+none-passed : (known : Localities) (runs : List (List Entry)) (elements : List ElementId)
+    → flat_map (passed_to (record { locality = known.locality; kind = known.kind; passed = λ variable. false }) runs) elements ≡ []
+none-passed known runs [] = refl
+none-passed known runs (x ∷ elements) = none-passed known runs elements
 
 abbrev plain_known : Localities → Localities
 plain_known known = record { locality = plain; kind = known.kind; passed = λ variable. false }
@@ -125,7 +119,7 @@ undefined_twice line runs elements = map (λ x. Undefines x line) (filter (λ x.
 plain-closing : (known : Localities) (line : ℕ) (runs : List (List Entry)) (store : Store)
     → closing (plain_known known) line runs store ≡ store_after (undefined_twice line runs (elements_of store)) store
 plain-closing known line runs store =
-    (λ i. store_after (undefined_twice line runs (elements_of store) ++ (none-passed (plain_known known) runs i ++ no-reductions known line runs store i)) store)
+    (λ i. store_after (undefined_twice line runs (elements_of store) ++ (none-passed (plain_known known) runs (elements_of store) i ++ no-reductions known line runs store i)) store)
     ∙ ap (λ es. store_after es store) (append-none (undefined_twice line runs (elements_of store)))
 
 known-plain : (parts : Parts) → IsPlainly parts → parts.form.known ≡ plain_known parts.form.known

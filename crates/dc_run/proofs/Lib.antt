@@ -15,11 +15,11 @@ pub mod Played
 mod RaceRows
 pub mod Remaining
 mod ReportLineExamples
+pub mod Reporting
 mod Rows
 mod StatementRows
 pub mod Stepping
 pub mod Subscripts
 pub mod Telling
-pub mod VisitOrders
 mod VisitRows
 pub mod Visited

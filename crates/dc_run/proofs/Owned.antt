@@ -1,8 +1,8 @@
 -- A race of a visit names an element that is there.
-use Rattle.std.proofs.Common.{◌≡◌, ◌≤◌, ◌+◌, ℕ, zero, suc, Bool, true, false, List, [], ◌∷◌, map, Option, Some, None, refl, sym, ap, subst, ◌∙◌, arith}
+use Rattle.std.proofs.Common.{◌≡◌, ◌≤◌, ◌<◌, ◌+◌, ℕ, zero, suc, Bool, true, false, List, [], ◌∷◌, map, Option, Some, None, refl, sym, ap, subst, ◌∙◌, arith}
 use Rattle.std.proofs.lemmas.Bool.{and_parts, leb-true}
 use Rattle.std.proofs.lemmas.Option.{none-some, same_Some}
-use Rattle.std.specs.Prelude.{ℤ, pos, negsuc, nat_eq, filter, slice_get, bytes_eq, if◌then◌else◌}
+use Rattle.std.specs.Prelude.{ℤ, pos, negsuc, nat_eq, filter, slice_get, bytes_eq, if◌then◌else◌, IsSomeAnd}
 use Rattle.std.specs.List.{list_all}
 use Rattle.dc_int.specs.declared.access.ElementId.{ElementId}
 use Rattle.dc_int.specs.declared.kind.Kind.{Kind}
@@ -15,8 +15,8 @@ use Rattle.dc_code.specs.Computation.{done, over}
 use Rattle.dc_code.specs.Inner.{judging}
 use Rattle.dc_code.specs.Laws.{Made}
 use Rattle.dc_code.specs.Loops.{Parts, Opened, opened}
-use Rattle.dc_code.specs.Verdicts.{Verdict, go_on, at_header, in_iteration, race, verdict}
-use Rattle.dc_code.specs.Visits.{Visited, visited, visited_by}
+use Rattle.dc_code.specs.Verdicts.{Verdict, go_on, at_header, in_iteration, race, verdict, visited_by}
+use Rattle.dc_code.specs.Visits.{Visited, visited}
 use Rattle.dc_code.proofs.Judged.{race-names}
 use Rattle.dc_code.proofs.Orders.{race-in_order}
 use Rattle.dc_tree.specs.declared.symbols.Symbol.{Symbol}
@@ -34,7 +34,8 @@ use Rattle.dc_meaning.proofs.Iterating.{iteration-own}
 use Rattle.dc_meaning.proofs.Own.{OwnEntity}
 use Rattle.dc_meaning.proofs.Passing.{symbols-small}
 use Rattle.dc_meaning.proofs.Storing.{vector-size}
-use Rattle.dc_run.specs.Answered.{variable_of, bounds_in_role, declared_bounds, IsThere}
+use Rattle.dc_run.specs.declared.ending.Ending as endings
+use Rattle.dc_run.specs.Answered.{variable_of, bounds_in_role, declared_bounds, IsElement, IsThere, NamesOwn, NamesThere}
 use Rattle.dc_run.specs.ReportLine.{is_outside}
 use Rattle.dc_run.specs.Running.{loop_in, AccessesOwn, MeetsOwn, stopped_by}
 
@@ -42,7 +43,7 @@ use Rattle.dc_run.specs.Running.{loop_in, AccessesOwn, MeetsOwn, stopped_by}
 
 -- The element is one of its variable.
 abbrev IsInside : List Symbol → ElementId → Type 0
-IsInside symbols x = IsThere (declared_bounds (variable_of symbols x)) x.position
+IsInside symbols x = IsElement symbols x
 
 small-few : (bounds : Bounds) → are_small_bounds bounds ≡ true → elements_in bounds ≤ 4194304
 small-few [] e = omega arith
@@ -78,10 +79,11 @@ module _ (symbols : List Symbol) (small : are_small_symbols symbols ≡ true) wh
   placed-own place number (Some symbol) same e =
       let all = (small-all symbols small).1 in
       let role = small-role symbol.role (small-at symbols place symbol all e) in
-      let named : declared_bounds (slice_get (filter is_outside symbols) number) ≡ role.0 =
-      (λ i. declared_bounds (slice_get (all-outside symbols all i) (same i))) ∙ ap declared_bounds e ∙ ap bounds_in_role role.1.0 in
-      let few = small-few role.0 role.1.1 in
-      rw role.1.0 (λ position below. subst (λ (bounds : Bounds). IsThere bounds position) (sym named) (record { inside = below; few = few }))
+      let named : slice_get (filter is_outside symbols) number ≡ Some symbol = (λ i. slice_get (all-outside symbols all i) (same i)) ∙ e in
+      rw role.1.0
+      (λ position below.
+      subst (λ (found : Option Symbol). IsSomeAnd found (λ symbol. position < elements_in (bounds_in_role symbol.role))) (sym named)
+      (subst (λ (bounds : Bounds). position < elements_in bounds) (sym (ap bounds_in_role role.1.0)) below))
 
   found-own : (found : Option ℕ) → OwnEntity (IsInside symbols) (found_at 0 symbols found)
   found-own None = tt
@@ -96,6 +98,27 @@ module _ (symbols : List Symbol) (small : are_small_symbols symbols ≡ true) wh
       by : (b : Bool) (e : Entity) → OwnEntity (IsInside symbols) e → OwnEntity (IsInside symbols) (if b then slots 0 (whole Kind.K4) [] else e)
       by true e own = tt
       by false e own = own
+
+  -- an element of a variable is there
+  there : (x : ElementId) (found : Option Symbol) → slice_get symbols x.variable ≡ found → IsSomeAnd found (λ symbol. x.position < elements_in (bounds_in_role symbol.role))
+      → IsThere (declared_bounds found) x.position
+  there x None e own = absurd own
+  there x (Some symbol) e own =
+      let role = small-role symbol.role (small-at symbols x.variable symbol (small-all symbols small).1 e) in
+      record { inside = own; few = subst (λ (bounds : Bounds). elements_in bounds ≤ 4194304) (sym (ap bounds_in_role role.1.0)) (small-few role.0 role.1.1) }
+
+  element-there : (x : ElementId) → IsElement symbols x → IsThere (declared_bounds (variable_of symbols x)) x.position
+  element-there x own =
+      there x (variable_of symbols x) (ap (λ (all : List Symbol). slice_get all x.variable) (sym (all-outside symbols (small-all symbols small).1))) own
+
+  pub names-there : (ending : endings.Ending) → NamesOwn symbols ending → NamesThere symbols ending
+  names-there endings.Ending.Done own = tt
+  names-there (endings.Ending.Bad why line) own = tt
+  names-there (endings.Ending.Stopped answers.Verdict.GoOn) own = tt
+  names-there (endings.Ending.Stopped (answers.Verdict.HeaderFault why line mask)) own = tt
+  names-there (endings.Ending.Stopped (answers.Verdict.IterFault why line at)) own = tt
+  names-there (endings.Ending.Stopped (answers.Verdict.IterSpent line at)) own = tt
+  names-there (endings.Ending.Stopped (answers.Verdict.Race found first second)) own = element-there found.element own
 
 -- The accesses of a loop of the program.
 pub accesses-own : (symbols : List Symbol) (source : Source) (turns number : ℕ) (head : Line) (block : Items) → is_small_program symbols source ≡ true → nth_loop number source.body ≡ Some (head, block)

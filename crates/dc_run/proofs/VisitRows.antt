@@ -1,5 +1,6 @@
 -- The loops that a run reaches: their numbers, the stores with which they are reached, and what is said of them.
 use Rattle.std.proofs.Common.{◌≡◌, ℕ, List, [], ◌∷◌, Option, Some, None, refl}
+use Rattle.std.proofs.lemmas.List.Elements.{All-nil, All-cons}
 use Rattle.std.specs.Prelude.{◌++◌, map, codes, ℤ, pos}
 use Rattle.std.specs.Fmt.{digits}
 use Rattle.std.specs.Int.{int_wrap}
@@ -7,10 +8,11 @@ use Rattle.dc_int.specs.declared.access.Action.{Action}
 use Rattle.dc_int.specs.declared.fault.FaultKind.{FaultKind}
 use Rattle.dc_int.specs.declared.fault.Why.{Why}
 use Rattle.dc_int.specs.Store.{Bounds, Variable, Store, value_at, cell_of, put_at}
+use Rattle.dc_code.specs.declared.verdict.Race.{Race}
 use Rattle.dc_code.specs.Inner.{judging}
 use Rattle.dc_code.specs.Troubles as troubles
 use Rattle.dc_code.specs.Troubles.{ended}
-use Rattle.dc_code.specs.Verdicts.{Verdict, go_on, at_header, in_iteration, race}
+use Rattle.dc_code.specs.Verdicts.{Verdict, go_on, at_header, in_iteration, race, side}
 use Rattle.dc_tree.specs.declared.symbols.Symbol.{Symbol}
 use Rattle.dc_tree.specs.declared.token.Mark.{Mark}
 use Rattle.dc_tree.specs.Blocks.{Item, Source}
@@ -18,13 +20,15 @@ use Rattle.dc_tree.specs.Statements as statements
 use Rattle.dc_meaning.proofs.Sources.{a, i, j, n, t, zero, one, two, three, var, of, ◌plus◌, ◌minus◌, ◌over◌, joined}
 use Rattle.dc_meaning.proofs.Sources.{set_at, print, from_to, by_step, concurrent, masked, counted, if_else, if_arms, arm_if, arm_else_if, arm_else, case, default, select, scalar, scalar_with, array, declared, program}
 use Rattle.dc_run.specs.Playing.{Visit, run}
+use Rattle.dc_run.specs.ReportLine.{done, outside_names, report_line}
+use Rattle.dc_run.specs.Visits.{WentOn, AllWentOn, StoppedAtLast}
 use Rattle.dc_run.proofs.Telling.{judged}
 
 abbrev visits_of : List Symbol → Source → List Visit
 visits_of symbols source = (run judging symbols source 1000 []).visits
 
-abbrev visit : ℕ → Store → Verdict → Visit
-visit number store verdict = record { loop = number; inside = []; turns = 1000; opening = store; verdict = verdict }
+abbrev visit : ℕ → Store → Verdict → Store → Visit
+visit number store verdict after = record { loop = number; inside = []; turns = 1000; opening = store; verdict = verdict; after = after }
 
 abbrev with_cells : Bounds → List (Option ℤ) → Variable
 with_cells bounds cells = record { bounds = Some bounds; cells = cells }
@@ -40,24 +44,59 @@ undefined = with_cells [] (None ∷ [])
 abbrev a_and_i : List Symbol
 a_and_i = declared a (array 2) ∷ declared i scalar ∷ []
 
--- A loop that goes on, and one that races: that is reached with the store that the first one left.
-two-loops : visits_of a_and_i
-    (program
+-- A loop that goes on, and one that races.
+abbrev two_loops : Source
+two_loops =
+    program
     (concurrent 3 (from_to i one two ∷ []) [] (set_at 4 a (var i ∷ []) (var i) ∷ [])
     ∷ concurrent 6 (from_to i one two ∷ []) [] (set_at 7 a (two ∷ []) (of a (var i ∷ [])) ∷ [])
-    ∷ concurrent 9 (from_to i one two ∷ []) [] [] ∷ []))
-    ≡ visit 0 (with_cells one_to_two (None ∷ None ∷ []) ∷ undefined ∷ []) go_on
-    ∷ visit 1 (with_cells one_to_two (Some (pos 1) ∷ Some (pos 2) ∷ []) ∷ undefined ∷ [])
-    (race
-    (record {
-      element = record { variable = 0; position = 1 };
-      first = record { iteration = 0; action = Action.Defines; line = 7 };
-      second = record { iteration = 1; action = Action.Reads; line = 7 };
-    })
-    (pos 1 ∷ []) (pos 2 ∷ []))
-    ∷ []
+    ∷ concurrent 9 (from_to i one two ∷ []) [] [] ∷ [])
+
+-- the store that the first of the two leaves
+abbrev one_and_two : Store
+one_and_two = with_cells one_to_two (Some (pos 1) ∷ Some (pos 2) ∷ []) ∷ undefined ∷ []
+
+abbrev going_on : Visit
+going_on = visit 0 (with_cells one_to_two (None ∷ None ∷ []) ∷ undefined ∷ []) go_on one_and_two
+
+abbrev found : Race
+found = record {
+  element = record { variable = 0; position = 1 };
+  first = record { iteration = 0; action = Action.Defines; line = 7 };
+  second = record { iteration = 1; action = Action.Reads; line = 7 };
+}
+
+-- It is reached with the store that the first one left, and changes nothing.
+abbrev racing : Visit
+racing = visit 1 one_and_two (race found (pos 1 ∷ []) (pos 2 ∷ [])) one_and_two
+
+two-loops : visits_of a_and_i two_loops ≡ going_on ∷ racing ∷ []
 unfolding digits value_at cell_of put_at int_wrap
 two-loops = refl
+
+-- The run is stopped at the last of them.
+stopped-at-last : StoppedAtLast (outside_names a_and_i) (visits_of a_and_i two_loops) (run judging a_and_i two_loops 1000 []).ending
+unfolding digits value_at cell_of put_at int_wrap
+stopped-at-last = record {
+  before = going_on ∷ [];
+  last = racing;
+  are = refl;
+  each = All-cons WentOn going_on [] refl (All-nil WentOn);
+  trouble = troubles.raced found.element (side found.first (pos 1 ∷ [])) (side found.second (pos 2 ∷ [])) [];
+  met = refl;
+  ends = refl;
+  told = refl;
+}
+
+-- Its trouble is what the line tells.
+told-at-last : report_line (outside_names a_and_i) (run judging a_and_i two_loops 1000 []).ending ≡ codes "race: a(2): iteration (1) defines at line 7, iteration (2) reads at line 7" ++ 10 ∷ []
+unfolding digits value_at cell_of put_at int_wrap
+told-at-last = refl
+
+-- The first loop by itself goes on, and the run comes to its end.
+all-went-on : AllWentOn (visits_of a_and_i (program (concurrent 3 (from_to i one two ∷ []) [] (set_at 4 a (var i ∷ []) (var i) ∷ []) ∷ []))) done
+unfolding digits value_at cell_of put_at int_wrap
+all-went-on = record { each = All-cons WentOn going_on [] refl (All-nil WentOn); ends = tt }
 
 -- A fault of an iteration.
 bad-iteration : map (λ visited. visited.verdict)

@@ -1,18 +1,18 @@
 -- A loop leaves the elements of a store, and the bounds of its variables.
 use Rattle.std.proofs.Common.{◌≡◌, ℕ, zero, suc, Bool, true, false, cond, List, [], ◌∷◌, ◌++◌, map, drop, Option, Some, None, refl, sym, ap, subst, ◌∙◌}
 use Rattle.std.specs.Prelude.{ℤ, pos, is_none}
-use Rattle.dc_int.specs.Entries.{Defines, Undefines, store_after_entry}
+use Rattle.dc_int.specs.Entries.{Entry, Defines, Undefines, store_after_entry}
 use Rattle.dc_int.specs.Store.{Store, value_at, bounds_of}
 use Rattle.dc_code.specs.declared.verdict.Verdict as answers
 use Rattle.dc_code.specs.Closing.{changes}
 use Rattle.dc_code.specs.Computation.{give, fail, read, define, undefine, contribute, ask, pause, Reached, done, bad, paused, over, SameShape}
 use Rattle.dc_code.specs.Inner.{Forms, judging, parts, greatest_depth, added, up_to_bad, inner, told_by}
-use Rattle.dc_code.specs.Loops.{Parts, alone, Passage, Orders, Opened, opened, Ordered, order, joined, nothing_done}
+use Rattle.dc_code.specs.Loops.{Parts, alone, Passage, Orders, Opened, opened, iterations_of, Ordered, order, joined, nothing_done}
 use Rattle.dc_code.specs.Orders.{as_ordered}
 use Rattle.dc_code.specs.Passages.{Entering, ended_well, behind, through}
-use Rattle.dc_code.specs.Troubles.{Trouble, Slots, Computing, Event, write_line, take_value, take_elements, end_reading, enter_loop, stop}
-use Rattle.dc_code.specs.Verdicts.{Verdict, go_on, at_header, in_iteration, race, verdict, trouble_in, seen}
-use Rattle.dc_code.specs.Visits.{Visited, visited, visited_by}
+use Rattle.dc_code.specs.Troubles.{Trouble, Slots, Computing, write_line, take_value, take_elements, end_reading, enter_loop, stop}
+use Rattle.dc_code.specs.Verdicts.{Verdict, go_on, at_header, in_iteration, race, verdict, visited_by, judged_by, judgement, trouble_in, seen}
+use Rattle.dc_code.specs.Visits.{Visited, visited}
 use Rattle.dc_code.proofs.Runs.{replayed}
 use Rattle.dc_code.proofs.Stores.{shape-after, shape-then}
 use Rattle.dc_meaning.specs.Visiting.{visit_of, IsVisit}
@@ -54,29 +54,20 @@ through-shape enter keeps store orders (pause stop rest) = through-shape enter k
 
 -- ---- a loop inside
 
-opened-shape : (loop : Parts) (turns : ℕ) (store : Store) → SameShape store (over store (opened loop.form turns)).store
-opened-shape loop turns store =
-    let run = over store (opened loop.form turns) in
-    subst (SameShape store) (sym (replayed store (opened loop.form turns))) (shape-after run.entries store)
-
-told-shape : (loop : Parts) (store : Store) (orders : Orders) (opening : Opened) (trouble : Option Trouble) → SameShape store (told_by loop store orders opening trouble).store
-told-shape loop store orders opening (Some trouble) = shape-after (added loop.form.line (up_to_bad (map (alone loop store) opening.iterations))) store
-told-shape loop store orders opening None =
-    let ordered = order loop (drop 1 orders) store (as_ordered orders opening.iterations) in
-    shape-after (added loop.form.line ordered.runs ++ changes loop.form.known loop.form.line ordered.runs ordered.store) store
+told-shape
+    : (loop : Parts) (store : Store) (header : List Entry) (orders : Orders) (iterations : List (List ℤ)) (turns : ℕ) (trouble : Option Trouble)
+    → SameShape store (told_by loop store header orders iterations turns trouble).store
+told-shape loop store header orders iterations turns (Some trouble) =
+    shape-after (header ++ added loop.form.line (up_to_bad (map (alone loop store) iterations))) store
+told-shape loop store header orders iterations turns None =
+    let ordered = order loop (drop 1 orders) store (as_ordered orders iterations) in
+    shape-after (header ++ (added loop.form.line ordered.runs ++ changes loop.form.known loop.form.line ordered.runs ordered.store)) store
 
 inner-shape : (loop : Parts) (turns : ℕ) (store : Store) (orders : Orders) → SameShape store (inner judging loop turns store orders).store
-inner-shape loop turns store orders = by (over store (opened loop.form turns)).reached refl
-  where
-    after : Store
-    after = (over store (opened loop.form turns)).store
-
-    by : (reached : Reached Event Trouble Opened) → (over store (opened loop.form turns)).reached ≡ reached → SameShape store (inner judging loop turns store orders).store
-    by (done opening) e =
-        let told = told_by loop after orders opening (trouble_in (verdict loop after opening.iterations)) in
-        rw e (shape-then store after told.store (opened-shape loop turns store) (told-shape loop after orders opening (trouble_in (verdict loop after opening.iterations))))
-    by (bad trouble) e = rw e (opened-shape loop turns store)
-    by (paused event rest) e = rw e (opened-shape loop turns store)
+inner-shape loop turns store orders =
+    let header = over store (opened loop.form turns) in
+    let said = judgement loop turns store in
+    told-shape loop store header.entries orders (iterations_of header.reached) said.turns (trouble_in said.verdict)
 
 -- ---- iterations
 
@@ -114,13 +105,13 @@ said-shape loop keeps store opening (at_header trouble) = same-shape store
 said-shape loop keeps store opening (in_iteration trouble at) = same-shape store
 said-shape loop keeps store opening (race found first second) = same-shape store
 
+judged-shape : (loop : Parts) → KeepsShape loop → (store : Store) (reached : Reached ⊥ Trouble Opened) → SameShape store (judged_by loop store reached).store
+judged-shape loop keeps store (bad trouble) = same-shape store
+judged-shape loop keeps store (done opening) = said-shape loop keeps store opening (verdict loop store opening.iterations)
+judged-shape loop keeps store (paused event rest) = absurd event
+
 visited-shape : (loop : Parts) → KeepsShape loop → (turns : ℕ) (store : Store) → SameShape store (visited judging loop turns store).store
-visited-shape loop keeps turns store = by (over store (opened loop.form turns)).reached refl
-  where
-    by : (reached : Reached Event Trouble Opened) → (over store (opened loop.form turns)).reached ≡ reached → SameShape store (visited judging loop turns store).store
-    by (done opening) e = rw e (said-shape loop keeps store opening (verdict loop store opening.iterations))
-    by (bad trouble) e = rw e (same-shape store)
-    by (paused event rest) e = rw e (same-shape store)
+visited-shape loop keeps turns store = judged-shape loop keeps store (over store (opened loop.form turns)).reached
 
 visit-store : (said : Verdict) (after : Store) → (visit_of said after 0).store ≡ after
 visit-store go_on after = refl

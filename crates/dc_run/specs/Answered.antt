@@ -1,5 +1,5 @@
 -- The code's endings as the definitions have them, and what must be there for a report of one.
-use Rattle.std.specs.Prelude.{◌≡◌, ◌<◌, ◌≤◌, ℕ, List, [], ◌∷◌, filter, slice_get, codes, Option, Some, None, ℤ}
+use Rattle.std.specs.Prelude.{◌≡◌, ◌<◌, ◌≤◌, ℕ, List, [], ◌∷◌, filter, slice_get, codes, Option, Some, None, IsSomeAnd, ℤ}
 use Rattle.std.specs.List.{concat}
 use Rattle.dc_int.specs.declared.fault.Why.{Why}
 use Rattle.dc_int.specs.declared.access.ElementId.{ElementId}
@@ -45,16 +45,25 @@ pub record IsRunOf (symbols : List Symbol) (source : Source) (turns : ℕ) (give
   pub output : out.output ≡ (run judging symbols source turns given).output
   pub ending : ending_of symbols out.ending ≡ (run judging symbols source turns given).ending
 
--- An element that a race names is one of its variable's, which has no more than the greatest number of
--- elements.
+-- The element is one of a variable of the main program.
+abbrev pub IsElement : List Symbol → ElementId → Type 0
+IsElement symbols x = IsSomeAnd (variable_of symbols x) (λ symbol. x.position < elements_in (bounds_in_role symbol.role))
+
+-- The element that a race names is one of the program's.
+abbrev pub NamesOwn : List Symbol → endings.Ending → Type 0
+NamesOwn symbols (endings.Ending.Stopped (answers.Verdict.Race found first second)) = IsElement symbols found.element
+NamesOwn symbols ending = Unit {0}
+
+-- The position is one of an array of no more than the greatest number of elements.
 pub record IsThere (bounds : Bounds) (position : ℕ) : Type 0 where
   pub inside : position < elements_in bounds
   pub few : elements_in bounds ≤ 4194304
 
-abbrev pub NamesOwn : List Symbol → endings.Ending → Type 0
-NamesOwn symbols (endings.Ending.Stopped (answers.Verdict.Race found first second)) =
+-- The same of the element that a race names.
+abbrev pub NamesThere : List Symbol → endings.Ending → Type 0
+NamesThere symbols (endings.Ending.Stopped (answers.Verdict.Race found first second)) =
     IsThere (declared_bounds (variable_of symbols found.element)) found.element.position
-NamesOwn symbols ending = Unit {0}
+NamesThere symbols ending = Unit {0}
 
 -- ---- the texts of troubles outside loops inside loops
 

@@ -1,5 +1,6 @@
 pub mod Answered
+pub mod Headline
 pub mod Playing
 pub mod ReportLine
 pub mod Running
-pub mod VisitOrders
+pub mod Visits

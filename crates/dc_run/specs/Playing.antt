@@ -19,13 +19,14 @@ use Rattle.dc_meaning.specs.Programs.{first_store, main_computation, program_for
 use Rattle.dc_run.specs.ReportLine.{Ending, done, bad, stopped}
 
 -- A loop that the main program reached: its number, the entities around it, the turns and the store with which
--- it was reached, and what was said of it.
+-- it was reached, what was said of it, and the store after it.
 pub record Visit : Type 0 where
   pub loop : ℕ
   pub inside : Slots
   pub turns : ℕ
   pub opening : Store
   pub verdict : Verdict
+  pub after : Store
 
 pub record Outcome : Type 0 where
   pub output : List ℕ
@@ -125,7 +126,7 @@ abbrev pub visits_loop : Looping → Standing → ℕ → ℕ → Slots → (Sta
 visits_loop looping at number turns slots rest = by (looping number slots turns at.store)
   where
     by : Visited → Outcome
-    by found = behind_visit (record { loop = number; inside = slots; turns = turns; opening = at.store; verdict = found.verdict }) (behind_loop at found rest)
+    by found = behind_visit (record { loop = number; inside = slots; turns = turns; opening = at.store; verdict = found.verdict; after = found.store }) (behind_loop at found rest)
 
 -- ---- the run
 

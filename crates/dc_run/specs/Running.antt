@@ -31,7 +31,7 @@ use Rattle.dc_meaning.specs.Visiting.{IsVisitable}
 use Rattle.dc_meaning.specs.Walking.{state_in}
 use Rattle.dc_run.specs.declared.ending.Ending as code
 use Rattle.dc_run.specs.declared.running.Standing as standings
-use Rattle.dc_run.specs.Answered.{ending_of, variable_of, declared_bounds, IsThere, NamesOwn}
+use Rattle.dc_run.specs.Answered.{ending_of, IsElement, NamesOwn}
 use Rattle.dc_run.specs.Playing.{Outcome, Standing, Looping, greatest_output, played}
 use Rattle.dc_run.specs.ReportLine.{Ending}
 
@@ -128,7 +128,7 @@ pub record RunsSo (looping : Looping) (number : ℕ) (loop : Parts) : Type 0 whe
 pub record AccessesOwn (symbols : List Symbol) (loop : Parts) : Type 0 where
   pub each
       : (store : Store) (z : ℤ) (access : Access) → Made access (loop.block store [] (combination z)).entries
-      → IsThere (declared_bounds (variable_of symbols access.element)) access.element.position
+      → IsElement symbols access.element
 
 -- Where this is a loop, it can be visited as the one of this number, which accesses elements that are there.
 abbrev pub IsVisitableAt : Forms → List Symbol → ℕ → Item → Type 0

@@ -5,7 +5,7 @@ ghost use Rattle.std.specs.Option.{option_copied};
 ghost use Rattle.dc_int.specs.Store.{extent};
 ghost use Rattle.dc_code.specs.Verdicts.{side};
 ghost use Rattle.dc_run.specs.declared.ending.Ending.{Ending};
-ghost use Rattle.dc_run.specs.Answered.{IsThere, bounds_in_role, variable_of, declared_bounds, sides_text, race_text, failure_text, iteration_text, masked_text, verdict_text, ending_of, NamesOwn};
+ghost use Rattle.dc_run.specs.Answered.{IsThere, bounds_in_role, variable_of, declared_bounds, sides_text, race_text, failure_text, iteration_text, masked_text, verdict_text, ending_of, NamesThere};
 ghost use Rattle.dc_run.specs.ReportLine.{is_outside, outside_names, subscripts_at, index_list, iteration, subscripts, element, action_word, fault_name, cause, line_text, side_text, report_line};
 
 use crate::ending::Ending;
@@ -259,7 +259,7 @@ fn put_verdict(
     symbols: &[Symbol],
     verdict: &Verdict,
 ) -> Result<(), NoMemory>
-    requires { NamesOwn symbols.now (Ending.Stopped verdict.now) }
+    requires { NamesThere symbols.now (Ending.Stopped verdict.now) }
     ensures { OnOk result (text.new ≡ text.old ++ verdict_text symbols.now verdict.now) }
 {
     match verdict {
@@ -309,7 +309,7 @@ pub(crate) fn ending_line(
     symbols: &Symbols,
     ending: &Ending,
 ) -> Result<DcText, NoMemory>
-    requires { NamesOwn symbols.now ending.now }
+    requires { NamesThere symbols.now ending.now }
     ensures { IfOk result (λ made. made ≡ report_line (outside_names symbols.now) (ending_of symbols.now ending.now)) }
 {
     let mut text = DcText::new(alloc);

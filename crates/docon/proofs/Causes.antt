@@ -1,32 +1,31 @@
 -- From the report that a call wrote to the cause of its answer.
-use Rattle.std.proofs.Common.{◌≡◌, ◌≤◌, ℕ, true, false, List, [], ◌++◌, take, Option, Some, None, refl, sym, ap, ◌∙◌, subst, inl, inr, arith, append-nil}
+use Rattle.std.proofs.Common.{◌≡◌, ◌≤◌, ℕ, true, false, List, take, Option, Some, None, refl, sym, ap, ◌∙◌, subst, inl, inr, arith}
 use Rattle.std.specs.Prelude.{MatchOption, IfSome, IsSome, option_map, codes}
 use Rattle.dc_int.specs.declared.fault.Why.{Why}
 use Rattle.dc_code.specs.Troubles as troubles
 use Rattle.dc_code.specs.Troubles.{Trouble, masked, raced}
 use Rattle.dc_code.specs.Verdicts.{trouble_in}
-use Rattle.dc_tree.specs.declared.program.Program.{Program}
-use Rattle.dc_tree.specs.declared.symbols.Symbol.{Symbol}
 use Rattle.dc_tree.specs.Blocks.{source_of}
-use Rattle.dc_front.specs.Form.{Spells}
 use Rattle.dc_front.proofs.Accepting.{one-program}
 use Rattle.dc_outer.specs.Causes.{Rose}
+use Rattle.dc_run.specs.Playing as playing
 use Rattle.dc_run.specs.ReportLine as endings
 use Rattle.dc_run.specs.ReportLine.{Ending}
+use Rattle.docon.specs.Answers.{Answers}
 use Rattle.docon.specs.declared.report.Report.{Report}
-use Rattle.docon.specs.Report.{Outcome, contents, fault, file_of, read_limit, only_log, run_of, status_of_why, status_of_trouble, status_of, report_of, RunReport, RefusalReport, IsSourceReport, IsReportOf, IsReport, HasOutcome}
+use Rattle.docon.specs.Report.{Reading, Outcome, contents, fault, file_of, read_limit, only_log, run_of, status_of_why, status_of_trouble, status_of, RunReport, RefusalReport, IsSourceReport, IsReportOf, IsReport, HasOutcome, Reported}
 use Rattle.docon.specs.Room.{Fits}
-use Rattle.docon.specs.Writing.{Seen, seen, Took, Untouched, WroteAll, Reported, WritesReport, IsWritten}
-use Rattle.docon.specs.Causes.{Reading, Change, IsAccepted, IsRefused, Gave, Tells, IsStatus, IsUnlessFailed, Ran, RanWith, EndsWithStatus, CausesOfRun, CausesOfRefused, CausesOfWords, CausesOfRead, IsCutShort, CausesOfWrite, CausesOfMemory, NothingFailed, IsComplete, NoWriteFails}
+use Rattle.docon.specs.Writing.{Change, Untouched, WroteAll, WritesReport, IsWritten}
+use Rattle.docon.specs.Causes.{IsAccepted, IsRefused, Gave, Tells, IsStatus, IsUnlessFailed, Ran, RanWith, EndsWithStatus, CausesOfRun, CausesOfRefused, CausesOfWords, CausesOfRead, IsCutShort, CausesOfWrite, HaveRoom, CausesOfMemory, Causes, NothingFailed, IsComplete}
 
 -- the call wrote its report or gave up
-abbrev pub Wrote : Reading → Change → Change → ℕ → Type 0
-Wrote asked out log answer = WritesReport asked.words asked.told asked.before asked.now out.before out.now log.before log.now answer
+abbrev pub Wrote : {W L : Type 0} → Reading → Change W → Change L → ℕ → Type 0
+Wrote asked out log answer = WritesReport asked out log answer
 
 -- no write failed
-pub record Steady (out log : Change) : Type 0 where
-  pub out_steady : out.now.faults ≡ out.before.faults
-  pub log_steady : log.now.faults ≡ log.before.faults
+pub record Steady {W L : Type 0} (out : Change W) (log : Change L) : Type 0 where
+  pub out_steady : out.faults out.now ≡ out.faults out.before
+  pub log_steady : log.faults log.now ≡ log.faults log.before
 
 -- ---- the status of a run
 
@@ -52,7 +51,7 @@ ending-status (endings.stopped verdict bounds) = trouble-status (trouble_in verd
 
 run-status : (text : List ℕ) (report : Report) → RunReport text report → IsRunStatus report.status
 run-status text report run =
-    subst IsRunStatus (sym (ap (λ (x : Report). x.status) run.ran.is)) (ending-status (run_of run.symbols (source_of run.program)).ending)
+    subst IsRunStatus (sym run.ran.status_is) (ending-status run.ran.ending)
 
 -- ---- how a call ended
 
@@ -76,36 +75,24 @@ kind_of_name : (asked : Reading) (report : Report) (word : Option (List ℕ)) �
 kind_of_name asked report None named outcome read is = of_words named is
 kind_of_name asked report (Some file) named outcome read is = kind_of_outcome asked report file named outcome read is
 
-pub kind_of : (asked : Reading) (report : Report) → Reported asked.words asked.told asked.before asked.now report → Kind asked report
+pub kind_of : (asked : Reading) (report : Report) → Reported asked report → Kind asked report
 kind_of asked report reported = kind_of_name asked report (file_of asked.words) refl reported.outcome reported.read reported.is_report
 
 -- How a call ended, by its answer.
-pub data Ended (asked : Reading) (out log : Change) (answer : ℕ) : Type 0 where
+pub data Ended {W L : Type 0} (asked : Reading) (out : Change W) (log : Change L) (answer : ℕ) : Type 0 where
   with_run : (ran : Ran asked out log) → Steady out log → answer ≡ ran.report.status → answer ≤ 4 → ¬ (answer ≡ 1) → Ended asked out log answer
   with_refused : (text : List ℕ) → Gave asked text → IsRefused text → Steady out log → answer ≡ 1 → Ended asked out log answer
   with_words : file_of asked.words ≡ None → Steady out log → answer ≡ 5 → Ended asked out log answer
   with_read : IsSome (file_of asked.words) → Rose asked.before asked.now → Steady out log → answer ≡ 6 → Ended asked out log answer
-  with_write : (report : Report) → Reported asked.words asked.told asked.before asked.now report → IsCutShort report out log → answer ≡ 7 → Ended asked out log answer
-  with_memory : Untouched out.before out.now → Untouched log.before log.now → answer ≡ 8 → Ended asked out log answer
+  with_write : (report : Report) → Reported asked report → IsCutShort report out log → answer ≡ 7 → Ended asked out log answer
+  with_memory : Untouched out → Untouched log → answer ≡ 8 → Ended asked out log answer
 
-held_same : (held : Option (List ℕ)) → option_map (λ bytes. bytes ++ []) held ≡ held
-held_same None = refl
-held_same (Some bytes) = ap (λ (x : List ℕ). Some x) (append-nil bytes)
-
-seen_same : (a b : Seen) → a.taken ≡ b.taken → a.faults ≡ b.faults → a ≡ b
-seen_same a b taken faults = ap (λ (x : Option (List ℕ)). seen x a.faults) taken ∙ ap (λ (n : ℕ). seen b.taken n) faults
-
--- a sink that took no bytes is untouched
-pub untouched : (before now : Seen) → Took before now [] → Untouched before now
-untouched before now took =
-    seen_same now before (took.taken ∙ held_same before.taken) took.steady
-
-steady_of : (report : Report) (out log : Change) (answer : ℕ) → WroteAll report out.before out.now log.before log.now answer → Steady out log
+steady_of : {W L : Type 0} (report : Report) (out : Change W) (log : Change L) (answer : ℕ) → WroteAll report out log answer → Steady out log
 steady_of report out log answer all = record { out_steady = all.out_all.steady; log_steady = all.log_all.steady }
 
-ended_whole : (asked : Reading) (out log : Change) (answer : ℕ) (report : Report) → Kind asked report → WroteAll report out.before out.now log.before log.now answer → Ended asked out log answer
+ended_whole : {W L : Type 0} (asked : Reading) (out : Change W) (log : Change L) (answer : ℕ) (report : Report) → Kind asked report → WroteAll report out log answer → Ended asked out log answer
 ended_whole asked out log answer report (of_words nameless is) all =
-    with_words nameless (steady_of report out log answer all) (all.status_is ∙ ap (λ (x : Report). x.status) is)
+    with_words nameless (steady_of report out log answer all) (all.answer_is ∙ ap (λ (x : Report). x.status) is)
 ended_whole asked out log answer report (of_run text read run) all =
     let ran : Ran asked out log = record {
       text = text;
@@ -116,23 +103,23 @@ ended_whole asked out log answer report (of_run text read run) all =
       log_all = all.log_all;
     } in
     let status = run-status text report run in
-    with_run ran (steady_of report out log answer all) all.status_is (omega (arith, all.status_is, status.most)) (λ one. status.other (sym all.status_is ∙ one))
+    with_run ran (steady_of report out log answer all) all.answer_is (omega (arith, all.answer_is, status.most)) (λ one. status.other (sym all.answer_is ∙ one))
 ended_whole asked out log answer report (of_refusal text read refusal) all =
-    with_refused text read (λ accepted. refusal.refused accepted.0 accepted.1 accepted.2) (steady_of report out log answer all) (all.status_is ∙ ap (λ (x : Report). x.status) refusal.is)
+    with_refused text read (λ accepted. refusal.refused accepted.0 accepted.1 accepted.2) (steady_of report out log answer all) (all.answer_is ∙ ap (λ (x : Report). x.status) refusal.is)
 ended_whole asked out log answer report (of_fault named rose is) all =
-    with_read named rose (steady_of report out log answer all) (all.status_is ∙ ap (λ (x : Report). x.status) is)
+    with_read named rose (steady_of report out log answer all) (all.answer_is ∙ ap (λ (x : Report). x.status) is)
 
-ended_written : (asked : Reading) (out log : Change) (answer : ℕ) (report : Report) → Reported asked.words asked.told asked.before asked.now report
-    → IsWritten report out.before out.now log.before log.now answer → Ended asked out log answer
+ended_written : {W L : Type 0} (asked : Reading) (out : Change W) (log : Change L) (answer : ℕ) (report : Report) → Reported asked report
+    → IsWritten report out log answer → Ended asked out log answer
 ended_written asked out log answer report reported (inl all) = ended_whole asked out log answer report (kind_of asked report reported) all
-ended_written asked out log answer report reported (inr (inl failed)) = with_write report reported (inl (failed.out_part, failed.log_none)) failed.status_is
-ended_written asked out log answer report reported (inr (inr failed)) = with_write report reported (inr (failed.out_all, failed.log_part)) failed.status_is
+ended_written asked out log answer report reported (inr (inl failed)) = with_write report reported (inl (failed.out_part, failed.log_none)) failed.answer_is
+ended_written asked out log answer report reported (inr (inr failed)) = with_write report reported (inr (failed.out_all, failed.log_part)) failed.answer_is
 
-pub ended : (asked : Reading) (out log : Change) (answer : ℕ) → Wrote asked out log answer → Ended asked out log answer
-ended asked out log answer (inl gave_up) = with_memory gave_up.out_none gave_up.log_none gave_up.status_is
+pub ended : {W L : Type 0} (asked : Reading) (out : Change W) (log : Change L) (answer : ℕ) → Wrote asked out log answer → Ended asked out log answer
+ended asked out log answer (inl gave_up) = with_memory gave_up.out_none gave_up.log_none gave_up.answer_is
 ended asked out log answer (inr wrote) = ended_written asked out log answer wrote.0 wrote.1 wrote.2
 
-status_of_ended : (asked : Reading) (out log : Change) (answer : ℕ) → Ended asked out log answer → IsStatus answer
+status_of_ended : {W L : Type 0} (asked : Reading) (out : Change W) (log : Change L) (answer : ℕ) → Ended asked out log answer → IsStatus answer
 status_of_ended asked out log answer (with_run ran steady is most other) = omega arith
 status_of_ended asked out log answer (with_refused text read refused steady is) = omega arith
 status_of_ended asked out log answer (with_words nameless steady is) = omega arith
@@ -150,12 +137,12 @@ given_is_told asked given text gave tells =
     let named : Some gave.file ≡ Some tells.file = sym gave.named ∙ tells.named in
     let file : gave.file ≡ tells.file = cc in
     let told : option_map (take read_limit) (asked.told gave.file) ≡ Some text = subst (λ (x : List ℕ). option_map (take read_limit) (asked.told x) ≡ Some text) (sym file) tells.tells in
-    same_text read_limit (asked.told gave.file) given text gave.gave.0 told
+    same_text read_limit (asked.told gave.file) given text gave.gave.first told
 
 not_none : (word : Option (List ℕ)) (file : List ℕ) → word ≡ None → word ≡ Some file → ⊥
 not_none word file nameless some = let no : None ≡ Some file = sym nameless ∙ some in cc
 
-only_run : (status : ℕ) → status ≤ 4 → ¬ (status ≡ 1) → (asked : Reading) (out log : Change) (answer : ℕ) → Ended asked out log answer → answer ≡ status → RanWith status asked out log
+only_run : {W L : Type 0} (status : ℕ) → status ≤ 4 → ¬ (status ≡ 1) → (asked : Reading) (out : Change W) (log : Change L) (answer : ℕ) → Ended asked out log answer → answer ≡ status → RanWith status asked out log
 only_run status few other asked out log answer (with_run ran steady is most apart) same = record { ran = ran; is = sym is ∙ same }
 only_run status few other asked out log answer (with_refused text read refused steady is) same = absurd (other (sym same ∙ is))
 only_run status few other asked out log answer (with_words nameless steady is) same = absurd (omega arith)
@@ -167,9 +154,10 @@ only_run status few other asked out log answer (with_memory out_none log_none is
 one_status : (text : List ℕ) (report : Report) (run : RunReport text report) (status : ℕ) → EndsWithStatus status text → report.status ≡ status
 one_status text report run status ends =
     let same = one-program text run.program ends.program run.symbols ends.symbols run.spelled ends.spelled in
-    ap (λ (x : Report). x.status) run.ran.is ∙ (λ i. status_of (run_of (same.1 i) (source_of (same.0 i))).ending) ∙ ends.is
+    run.ran.status_is ∙ ap (λ (outcome : playing.Outcome). status_of outcome.ending) (sym run.ran.ran.is)
+    ∙ (λ i. status_of (run_of (same.1 i) (source_of (same.0 i))).ending) ∙ ends.is
 
-wherever_run : (status : ℕ) (asked : Reading) (out log : Change) (answer : ℕ) → Ended asked out log answer → (text : List ℕ) → Tells asked text → EndsWithStatus status text → IsUnlessFailed status answer
+wherever_run : {W L : Type 0} (status : ℕ) (asked : Reading) (out : Change W) (log : Change L) (answer : ℕ) → Ended asked out log answer → (text : List ℕ) → Tells asked text → EndsWithStatus status text → IsUnlessFailed status answer
 wherever_run status asked out log answer (with_run ran steady is most other) text tells ends =
     inl (is ∙ one_status ran.text ran.report ran.run status (subst (EndsWithStatus status) (sym (given_is_told asked ran.text text ran.read tells)) ends))
 wherever_run status asked out log answer (with_refused given read refused steady is) text tells ends =
@@ -179,12 +167,12 @@ wherever_run status asked out log answer (with_read named rose steady is) text t
 wherever_run status asked out log answer (with_write report reported cut is) text tells ends = inr (inl is)
 wherever_run status asked out log answer (with_memory out_none log_none is) text tells ends = inr (inr is)
 
-pub causes_run : (status : ℕ) → status ≤ 4 → ¬ (status ≡ 1) → (asked : Reading) (out log : Change) (answer : ℕ) → Wrote asked out log answer → CausesOfRun status asked out log answer
+pub causes_run : {W L : Type 0} (status : ℕ) → status ≤ 4 → ¬ (status ≡ 1) → (asked : Reading) (out : Change W) (log : Change L) (answer : ℕ) → Wrote asked out log answer → CausesOfRun status asked out log answer
 causes_run status few other asked out log answer wrote =
     let end = ended asked out log answer wrote in
     record { only = only_run status few other asked out log answer end; wherever = wherever_run status asked out log answer end }
 
-only_refused : (asked : Reading) (out log : Change) (answer : ℕ) → Ended asked out log answer → answer ≡ 1 → (text : List ℕ) × Gave asked text × IsRefused text
+only_refused : {W L : Type 0} (asked : Reading) (out : Change W) (log : Change L) (answer : ℕ) → Ended asked out log answer → answer ≡ 1 → (text : List ℕ) × Gave asked text × IsRefused text
 only_refused asked out log answer (with_run ran steady is most other) one = absurd (other one)
 only_refused asked out log answer (with_refused text read refused steady is) one = (text, read, refused)
 only_refused asked out log answer (with_words nameless steady is) one = absurd (omega arith)
@@ -192,7 +180,7 @@ only_refused asked out log answer (with_read named rose steady is) one = absurd 
 only_refused asked out log answer (with_write report reported cut is) one = absurd (omega arith)
 only_refused asked out log answer (with_memory out_none log_none is) one = absurd (omega arith)
 
-wherever_refused : (asked : Reading) (out log : Change) (answer : ℕ) → Ended asked out log answer → (text : List ℕ) → Tells asked text → IsRefused text → IsUnlessFailed 1 answer
+wherever_refused : {W L : Type 0} (asked : Reading) (out : Change W) (log : Change L) (answer : ℕ) → Ended asked out log answer → (text : List ℕ) → Tells asked text → IsRefused text → IsUnlessFailed 1 answer
 wherever_refused asked out log answer (with_run ran steady is most other) text tells refused =
     absurd (refused (subst IsAccepted (given_is_told asked ran.text text ran.read tells) (ran.run.program, ran.run.symbols, ran.run.spelled)))
 wherever_refused asked out log answer (with_refused given read others steady is) text tells refused = inl is
@@ -201,12 +189,12 @@ wherever_refused asked out log answer (with_read named rose steady is) text tell
 wherever_refused asked out log answer (with_write report reported cut is) text tells refused = inr (inl is)
 wherever_refused asked out log answer (with_memory out_none log_none is) text tells refused = inr (inr is)
 
-pub causes_refused : (asked : Reading) (out log : Change) (answer : ℕ) → Wrote asked out log answer → CausesOfRefused asked answer
+pub causes_refused : {W L : Type 0} (asked : Reading) (out : Change W) (log : Change L) (answer : ℕ) → Wrote asked out log answer → CausesOfRefused asked answer
 causes_refused asked out log answer wrote =
     let end = ended asked out log answer wrote in
     record { only = only_refused asked out log answer end; wherever = wherever_refused asked out log answer end }
 
-only_words : (asked : Reading) (out log : Change) (answer : ℕ) → Ended asked out log answer → answer ≡ 5 → file_of asked.words ≡ None
+only_words : {W L : Type 0} (asked : Reading) (out : Change W) (log : Change L) (answer : ℕ) → Ended asked out log answer → answer ≡ 5 → file_of asked.words ≡ None
 only_words asked out log answer (with_run ran steady is most other) five = absurd (omega arith)
 only_words asked out log answer (with_refused text read refused steady is) five = absurd (omega arith)
 only_words asked out log answer (with_words nameless steady is) five = nameless
@@ -219,7 +207,7 @@ not_some : (word : Option (List ℕ)) → word ≡ None → IsSome word → ⊥
 not_some None nameless some = let no : false ≡ true = some in cc
 not_some (Some file) nameless some = let no : Some file ≡ None = nameless in cc
 
-wherever_words : (asked : Reading) (out log : Change) (answer : ℕ) → Ended asked out log answer → file_of asked.words ≡ None → IsUnlessFailed 5 answer
+wherever_words : {W L : Type 0} (asked : Reading) (out : Change W) (log : Change L) (answer : ℕ) → Ended asked out log answer → file_of asked.words ≡ None → IsUnlessFailed 5 answer
 wherever_words asked out log answer (with_run ran steady is most other) nameless = absurd (not_none (file_of asked.words) ran.read.file nameless ran.read.named)
 wherever_words asked out log answer (with_refused text read refused steady is) nameless = absurd (not_none (file_of asked.words) read.file nameless read.named)
 wherever_words asked out log answer (with_words same steady is) nameless = inl is
@@ -227,12 +215,12 @@ wherever_words asked out log answer (with_read named rose steady is) nameless = 
 wherever_words asked out log answer (with_write report reported cut is) nameless = inr (inl is)
 wherever_words asked out log answer (with_memory out_none log_none is) nameless = inr (inr is)
 
-pub causes_words : (asked : Reading) (out log : Change) (answer : ℕ) → Wrote asked out log answer → CausesOfWords asked.words answer
+pub causes_words : {W L : Type 0} (asked : Reading) (out : Change W) (log : Change L) (answer : ℕ) → Wrote asked out log answer → CausesOfWords asked.words answer
 causes_words asked out log answer wrote =
     let end = ended asked out log answer wrote in
     record { only = only_words asked out log answer end; wherever = wherever_words asked out log answer end }
 
-only_read : (asked : Reading) (out log : Change) (answer : ℕ) → Ended asked out log answer → answer ≡ 6 → IsSome (file_of asked.words) × Rose asked.before asked.now
+only_read : {W L : Type 0} (asked : Reading) (out : Change W) (log : Change L) (answer : ℕ) → Ended asked out log answer → answer ≡ 6 → IsSome (file_of asked.words) × Rose asked.before asked.now
 only_read asked out log answer (with_run ran steady is most other) six = absurd (omega arith)
 only_read asked out log answer (with_refused text read refused steady is) six = absurd (omega arith)
 only_read asked out log answer (with_words nameless steady is) six = absurd (omega arith)
@@ -240,21 +228,21 @@ only_read asked out log answer (with_read named rose steady is) six = (named, ro
 only_read asked out log answer (with_write report reported cut is) six = absurd (omega arith)
 only_read asked out log answer (with_memory out_none log_none is) six = absurd (omega arith)
 
-wherever_read : (asked : Reading) (out log : Change) (answer : ℕ) → Ended asked out log answer → (file_of asked.words ≡ None → asked.now ≡ asked.before) → ¬ (asked.now ≡ asked.before) → IsUnlessFailed 6 answer
-wherever_read asked out log answer (with_run ran steady is most other) unread moved = absurd (moved ran.read.gave.1)
-wherever_read asked out log answer (with_refused text read refused steady is) unread moved = absurd (moved read.gave.1)
+wherever_read : {W L : Type 0} (asked : Reading) (out : Change W) (log : Change L) (answer : ℕ) → Ended asked out log answer → (file_of asked.words ≡ None → asked.now ≡ asked.before) → ¬ (asked.now ≡ asked.before) → IsUnlessFailed 6 answer
+wherever_read asked out log answer (with_run ran steady is most other) unread moved = absurd (moved ran.read.gave.steady)
+wherever_read asked out log answer (with_refused text read refused steady is) unread moved = absurd (moved read.gave.steady)
 wherever_read asked out log answer (with_words nameless steady is) unread moved = absurd (moved (unread nameless))
 wherever_read asked out log answer (with_read named rose steady is) unread moved = inl is
 wherever_read asked out log answer (with_write report reported cut is) unread moved = inr (inl is)
 wherever_read asked out log answer (with_memory out_none log_none is) unread moved = inr (inr is)
 
-pub causes_read : (asked : Reading) (out log : Change) (answer : ℕ) → Wrote asked out log answer → (file_of asked.words ≡ None → asked.now ≡ asked.before) → CausesOfRead asked.words asked.before asked.now answer
+pub causes_read : {W L : Type 0} (asked : Reading) (out : Change W) (log : Change L) (answer : ℕ) → Wrote asked out log answer → (file_of asked.words ≡ None → asked.now ≡ asked.before) → CausesOfRead asked.words asked.before asked.now answer
 causes_read asked out log answer wrote unread =
     let end = ended asked out log answer wrote in
     record { only = only_read asked out log answer end; wherever = wherever_read asked out log answer end unread }
 
-only_write : (asked : Reading) (out log : Change) (answer : ℕ) → Ended asked out log answer → answer ≡ 7
-    → (report : Report) × Reported asked.words asked.told asked.before asked.now report × IsCutShort report out log
+only_write : {W L : Type 0} (asked : Reading) (out : Change W) (log : Change L) (answer : ℕ) → Ended asked out log answer → answer ≡ 7
+    → (report : Report) × Reported asked report × IsCutShort report out log
 only_write asked out log answer (with_run ran steady is most other) seven = absurd (omega arith)
 only_write asked out log answer (with_refused text read refused steady is) seven = absurd (omega arith)
 only_write asked out log answer (with_words nameless steady is) seven = absurd (omega arith)
@@ -262,25 +250,16 @@ only_write asked out log answer (with_read named rose steady is) seven = absurd 
 only_write asked out log answer (with_write report reported cut is) seven = (report, reported, cut)
 only_write asked out log answer (with_memory out_none log_none is) seven = absurd (omega arith)
 
-wherever_write : (asked : Reading) (out log : Change) (answer : ℕ) → Ended asked out log answer → ¬ (Steady out log) → answer ≡ 7
+wherever_write : {W L : Type 0} (asked : Reading) (out : Change W) (log : Change L) (answer : ℕ) → Ended asked out log answer → ¬ (Steady out log) → answer ≡ 7
 wherever_write asked out log answer (with_run ran steady is most other) moved = absurd (moved steady)
 wherever_write asked out log answer (with_refused text read refused steady is) moved = absurd (moved steady)
 wherever_write asked out log answer (with_words nameless steady is) moved = absurd (moved steady)
 wherever_write asked out log answer (with_read named rose steady is) moved = absurd (moved steady)
 wherever_write asked out log answer (with_write report reported cut is) moved = is
 wherever_write asked out log answer (with_memory out_none log_none is) moved =
-    absurd (moved (record { out_steady = ap (λ (x : Seen). x.faults) out_none; log_steady = ap (λ (x : Seen). x.faults) log_none }))
+    absurd (moved (record { out_steady = ap out.faults out_none; log_steady = ap log.faults log_none }))
 
-pub causes_write : (asked : Reading) (out log : Change) (answer : ℕ) → Wrote asked out log answer → CausesOfWrite asked out log answer
-causes_write asked out log answer wrote =
-    let end = ended asked out log answer wrote in
-    record {
-      only = only_write asked out log answer end;
-      wherever_out = λ moved. wherever_write asked out log answer end (λ steady. moved steady.out_steady);
-      wherever_log = λ moved. wherever_write asked out log answer end (λ steady. moved steady.log_steady);
-    }
-
-only_memory : (asked : Reading) (out log : Change) (answer : ℕ) → Ended asked out log answer → CausesOfMemory out log answer
+only_memory : {W L : Type 0} (asked : Reading) (out : Change W) (log : Change L) (answer : ℕ) → Ended asked out log answer → CausesOfMemory out log answer
 only_memory asked out log answer (with_run ran steady is most other) = λ eight. absurd (omega arith)
 only_memory asked out log answer (with_refused text read refused steady is) = λ eight. absurd (omega arith)
 only_memory asked out log answer (with_words nameless steady is) = λ eight. absurd (omega arith)
@@ -288,17 +267,17 @@ only_memory asked out log answer (with_read named rose steady is) = λ eight. ab
 only_memory asked out log answer (with_write report reported cut is) = λ eight. absurd (omega arith)
 only_memory asked out log answer (with_memory out_none log_none is) = λ eight. (out_none, log_none)
 
-pub causes_memory : (asked : Reading) (out log : Change) (answer : ℕ) → Wrote asked out log answer → CausesOfMemory out log answer
+pub causes_memory : {W L : Type 0} (asked : Reading) (out : Change W) (log : Change L) (answer : ℕ) → Wrote asked out log answer → CausesOfMemory out log answer
 causes_memory asked out log answer wrote = only_memory asked out log answer (ended asked out log answer wrote)
 
-pub is_status : (asked : Reading) (out log : Change) (answer : ℕ) → Wrote asked out log answer → IsStatus answer
+pub is_status : {W L : Type 0} (asked : Reading) (out : Change W) (log : Change L) (answer : ℕ) → Wrote asked out log answer → IsStatus answer
 is_status asked out log answer wrote = status_of_ended asked out log answer (ended asked out log answer wrote)
 
 -- the report of the outcome is that of the told source
 told_outcome : (report : Report) (held : Option (List ℕ)) (before now : ℕ) (text : List ℕ) → ¬ (Rose before now) → option_map (take read_limit) held ≡ Some text
     → (outcome : Outcome) → HasOutcome held before now outcome → IsReportOf outcome report → IsReportOf (contents text) report
 told_outcome report held before now text no_fault tells (contents given) gave is =
-    subst (λ (x : List ℕ). IsSourceReport x report) (same_text read_limit held given text gave.0 tells) is
+    subst (λ (x : List ℕ). IsSourceReport x report) (same_text read_limit held given text gave.first tells) is
 told_outcome report held before now text no_fault tells fault rose is = absurd (no_fault rose)
 
 told_report : (asked : Reading) (report : Report) (text : List ℕ) → ¬ (Rose asked.before asked.now) → (word : Option (List ℕ))
@@ -309,13 +288,13 @@ told_report : (asked : Reading) (report : Report) (text : List ℕ) → ¬ (Rose
 told_report asked report text no_fault None tells outcome read is = is
 told_report asked report text no_fault (Some file) tells outcome read is = told_outcome report (asked.told file) asked.before asked.now text no_fault tells outcome read is
 
-complete_written : (asked : Reading) (out log : Change) (answer : ℕ) (report : Report) (text : List ℕ) → IsReport asked.words (contents text) report
-    → IsWritten report out.before out.now log.before log.now answer → NothingFailed asked out log text → WroteAll report out.before out.now log.before log.now answer
+complete_written : {W L : Type 0} (asked : Reading) (out : Change W) (log : Change L) (answer : ℕ) (report : Report) (text : List ℕ) → IsReport asked.words (contents text) report
+    → IsWritten report out log answer → NothingFailed asked out log text → WroteAll report out log answer
 complete_written asked out log answer report text is (inl all) quiet = all
 complete_written asked out log answer report text is (inr (inl failed)) quiet = absurd (quiet.out_no_fault failed.out_part.rose)
 complete_written asked out log answer report text is (inr (inr failed)) quiet = absurd (quiet.log_no_fault failed.log_part.rose)
 
-pub complete : (asked : Reading) (out log : Change) (answer : ℕ) → Wrote asked out log answer → IsComplete asked out log answer
+pub complete : {W L : Type 0} (asked : Reading) (out : Change W) (log : Change L) (answer : ℕ) → Wrote asked out log answer → IsComplete asked out log answer
 complete asked out log answer (inl gave_up) = λ text quiet. inl gave_up
 complete asked out log answer (inr wrote) =
     λ text quiet.
@@ -329,10 +308,43 @@ not_seven_kind asked report (of_run text read run) = λ seven. absurd (let most 
 not_seven_kind asked report (of_refusal text read refusal) = λ seven. absurd (let same : report.status ≡ 1 = ap (λ (x : Report). x.status) refusal.is in omega arith)
 not_seven_kind asked report (of_fault named rose is) = λ seven. absurd (let same : report.status ≡ 6 = ap (λ (x : Report). x.status) is in omega arith)
 
-pub not_seven : (asked : Reading) (report : Report) → Reported asked.words asked.told asked.before asked.now report → ¬ (report.status ≡ 7)
+pub not_seven : (asked : Reading) (report : Report) → Reported asked report → ¬ (report.status ≡ 7)
 not_seven asked report reported = not_seven_kind asked report (kind_of asked report reported)
 
-pub no_write_fails : (asked : Reading) (out_room log_room : Option ℕ) (answer : ℕ) (report : Report) → Reported asked.words asked.told asked.before asked.now report
-    → (Fits report out_room log_room → answer ≡ report.status) → NoWriteFails asked out_room log_room answer
-no_write_fails asked out_room log_room answer report reported answered =
+pub no_write_fails : {W L : Type 0} (asked : Reading) (out : Change W) (log : Change L) (answer : ℕ) (report : Report) → Reported asked report
+    → (Fits report (out.room out.before) (log.room log.before) → answer ≡ report.status) → HaveRoom asked out log → ¬ (answer ≡ 7)
+no_write_fails asked out log answer report reported answered =
     λ fits seven. not_seven asked report reported (sym (answered (fits report reported)) ∙ seven)
+
+pub causes_write : {W L : Type 0} (asked : Reading) (out : Change W) (log : Change L) (answer : ℕ) → Wrote asked out log answer → (HaveRoom asked out log → ¬ (answer ≡ 7)) → CausesOfWrite asked out log answer
+causes_write asked out log answer wrote never =
+    let end = ended asked out log answer wrote in
+    record {
+      only = only_write asked out log answer end;
+      wherever_out = λ moved. wherever_write asked out log answer end (λ steady. moved steady.out_steady);
+      wherever_log = λ moved. wherever_write asked out log answer end (λ steady. moved steady.log_steady);
+      never = never;
+    }
+
+-- Where a call wrote its report or gave up, its answer has its cause.
+pub causes : {W L : Type 0} (asked : Reading) (out : Change W) (log : Change L) (answer : ℕ) → Wrote asked out log answer → (file_of asked.words ≡ None → asked.now ≡ asked.before)
+    → (HaveRoom asked out log → ¬ (answer ≡ 7)) → Causes asked out log answer
+causes asked out log answer wrote unread never =
+    record {
+      done = causes_run 0 (omega arith) (λ one. omega (arith, one)) asked out log answer wrote;
+      raced = causes_run 2 (omega arith) (λ one. omega (arith, one)) asked out log answer wrote;
+      faulted = causes_run 3 (omega arith) (λ one. omega (arith, one)) asked out log answer wrote;
+      spent = causes_run 4 (omega arith) (λ one. omega (arith, one)) asked out log answer wrote;
+      refused = causes_refused asked out log answer wrote;
+      words = causes_words asked out log answer wrote;
+      read = causes_read asked out log answer wrote unread;
+      write = causes_write asked out log answer wrote never;
+      memory = causes_memory asked out log answer wrote;
+      status = is_status asked out log answer wrote;
+    }
+
+-- What a call answers that wrote its report or gave up.
+pub answers : {W L : Type 0} (asked : Reading) (out : Change W) (log : Change L) (answer : ℕ) → Wrote asked out log answer → (file_of asked.words ≡ None → asked.now ≡ asked.before)
+    → (HaveRoom asked out log → ¬ (answer ≡ 7)) → Answers asked out log answer
+answers asked out log answer wrote unread never =
+    record { report = wrote; causes = causes asked out log answer wrote unread never; complete = complete asked out log answer wrote }

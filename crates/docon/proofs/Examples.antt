@@ -1,5 +1,5 @@
 -- Small examples of the words and of the statuses, which compute.
-use Rattle.std.proofs.Common.{◌≡◌, [], ◌∷◌, Some, None, refl}
+use Rattle.std.proofs.Common.{◌≡◌, [], ◌∷◌, None, refl}
 use Rattle.std.specs.Prelude.{codes}
 use Rattle.dc_int.specs.declared.access.Action.{Action}
 use Rattle.dc_int.specs.declared.fault.FaultKind.{FaultKind}

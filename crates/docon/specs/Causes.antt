@@ -1,41 +1,22 @@
 -- Where each answer of the top call comes, and what then stands. This project's own.
-use Rattle.std.specs.Prelude.{◌≡◌, ℕ, ◌≤◌, List, take, Option, Some, None, option_map, IsSome, IfSome, ◌⊎◌}
+use Rattle.std.specs.Prelude.{◌≡◌, ℕ, ◌≤◌, List, take, Some, None, option_map, IsSome, IfSome, ◌⊎◌}
 use Rattle.dc_tree.specs.declared.program.Program.{Program}
 use Rattle.dc_tree.specs.declared.symbols.Symbol.{Symbol}
 use Rattle.dc_tree.specs.Blocks.{source_of}
 use Rattle.dc_front.specs.Form.{Spells}
 use Rattle.dc_outer.specs.Causes.{Rose}
 use Rattle.docon.specs.declared.report.Report.{Report}
-use Rattle.docon.specs.Report.{contents, file_of, read_limit, run_of, status_of, RunReport, IsReport, HasOutcome}
+use Rattle.docon.specs.Report.{Reading, contents, file_of, read_limit, run_of, status_of, RunReport, IsReport, HasOutcome, Reported}
 use Rattle.docon.specs.Room.{Fits}
-use Rattle.docon.specs.Writing.{Seen, Took, FailedIn, Untouched, WroteAll, GaveUp, Reported}
-
--- What a call had to read: its words, what the files hold under a name where they tell, and the
--- files' count of faults before the call and after it.
-pub record Reading : Type 0 where
-  pub words : List (List ℕ)
-  pub told : List ℕ → Option (List ℕ)
-  pub before : ℕ
-  pub now : ℕ
-
-abbrev pub reading : List (List ℕ) → (List ℕ → Option (List ℕ)) → ℕ → ℕ → Reading
-reading words told before now = record { words = words; told = told; before = before; now = now }
-
--- A sink before a call and after it.
-pub record Change : Type 0 where
-  pub before : Seen
-  pub now : Seen
-
-abbrev pub change : Option (List ℕ) → ℕ → Option (List ℕ) → ℕ → Change
-change taken faults taken' faults' = record { before = record { taken = taken; faults = faults }; now = record { taken = taken'; faults = faults' } }
+use Rattle.docon.specs.Writing.{Change, Took, FailedIn, Untouched, WroteAll, GaveUp}
 
 -- the count did not rise
 abbrev pub NoFault : ℕ → ℕ → Type 0
 NoFault before now = ¬ (Rose before now)
 
 -- the sink's count did not rise
-abbrev pub NoWriteFault : Change → Type 0
-NoWriteFault sink = NoFault sink.before.faults sink.now.faults
+abbrev pub NoWriteFault : {T : Type 0} → Change T → Type 0
+NoWriteFault sink = NoFault (sink.faults sink.before) (sink.faults sink.now)
 
 -- some program is spelled by the source
 abbrev pub IsAccepted : List ℕ → Type 0
@@ -70,16 +51,16 @@ IsStatus answer = answer ≤ 8
 
 -- A source was read that some program is spelled by, and the report of its run was written whole: what it
 -- wrote to out, and the line that tells how it ended to the log.
-pub record Ran (asked : Reading) (out log : Change) : Type 0 where
+pub record Ran {W L : Type 0} (asked : Reading) (out : Change W) (log : Change L) : Type 0 where
   pub text : List ℕ
   pub read : Gave asked text
   pub report : Report
   pub run : RunReport text report
-  pub out_all : Took out.before out.now report.out
-  pub log_all : Took log.before log.now report.log
+  pub out_all : Took out report.out
+  pub log_all : Took log report.log
 
 -- It ran, and its run has this status.
-pub record RanWith (status : ℕ) (asked : Reading) (out log : Change) : Type 0 where
+pub record RanWith {W L : Type 0} (status : ℕ) (asked : Reading) (out : Change W) (log : Change L) : Type 0 where
   pub ran : Ran asked out log
   pub is : ran.report.status ≡ status
 
@@ -92,7 +73,7 @@ pub record EndsWithStatus (status : ℕ) (text : List ℕ) : Type 0 where
 
 -- Answers 0, 2, 3 and 4: only where a source was read whose run has this status, and its report was written
 -- whole; and wherever the files tell such a source.
-pub record CausesOfRun (status : ℕ) (asked : Reading) (out log : Change) (answer : ℕ) : Type 0 where
+pub record CausesOfRun {W L : Type 0} (status : ℕ) (asked : Reading) (out : Change W) (log : Change L) (answer : ℕ) : Type 0 where
   pub only : answer ≡ status → RanWith status asked out log
   pub wherever : (text : List ℕ) → Tells asked text → EndsWithStatus status text → IsUnlessFailed status answer
 
@@ -111,24 +92,44 @@ pub record CausesOfRead (words : List (List ℕ)) (before now : ℕ) (answer : �
   pub only : answer ≡ 6 → IsSome (file_of words) × Rose before now
   pub wherever : ¬ (now ≡ before) → IsUnlessFailed 6 answer
 
--- A write of the report failed: a proper prefix of its out bytes stands, and the log is untouched;
--- or all of out stands, and a proper prefix of its log bytes.
-abbrev pub IsCutShort : Report → Change → Change → Type 0
-IsCutShort report out log =
-    (FailedIn out.before out.now report.out × Untouched log.before log.now) ⊎ (Took out.before out.now report.out × FailedIn log.before log.now report.log)
+-- A write of the report failed: a proper prefix of its out bytes stands, and the log is as it was; or all of out
+-- stands, and a proper prefix of its log bytes.
+abbrev pub IsCutShort : {W L : Type 0} → Report → Change W → Change L → Type 0
+IsCutShort report out log = (FailedIn out report.out × Untouched log) ⊎ (Took out report.out × FailedIn log report.log)
 
--- Answer 7: only where a write of the call's report failed; and wherever a sink's count changed.
-pub record CausesOfWrite (asked : Reading) (out log : Change) (answer : ℕ) : Type 0 where
-  pub only : answer ≡ 7 → (report : Report) × Reported asked.words asked.told asked.before asked.now report × IsCutShort report out log
-  pub wherever_out : ¬ (out.now.faults ≡ out.before.faults) → answer ≡ 7
-  pub wherever_log : ¬ (log.now.faults ≡ log.before.faults) → answer ≡ 7
+-- The sinks tell that they have room for each report of this reading.
+abbrev pub HaveRoom : {W L : Type 0} → Reading → Change W → Change L → Type 0
+HaveRoom asked out log = (report : Report) → Reported asked report → Fits report (out.room out.before) (log.room log.before)
 
--- Answer 8: only where nothing was written.
-abbrev pub CausesOfMemory : Change → Change → ℕ → Type 0
-CausesOfMemory out log answer = answer ≡ 8 → Untouched out.before out.now × Untouched log.before log.now
+-- Answer 7: only where a write of the call's report failed; wherever a sink's count changed; and never where
+-- the sinks have room.
+pub record CausesOfWrite {W L : Type 0} (asked : Reading) (out : Change W) (log : Change L) (answer : ℕ) : Type 0 where
+  pub only : answer ≡ 7 → (report : Report) × Reported asked report × IsCutShort report out log
+  pub wherever_out : ¬ (out.faults out.now ≡ out.faults out.before) → answer ≡ 7
+  pub wherever_log : ¬ (log.faults log.now ≡ log.faults log.before) → answer ≡ 7
+  pub never : HaveRoom asked out log → ¬ (answer ≡ 7)
+
+-- Answer 8: only where both sinks are as they were.
+abbrev pub CausesOfMemory : {W L : Type 0} → Change W → Change L → ℕ → Type 0
+CausesOfMemory out log answer = answer ≡ 8 → Untouched out × Untouched log
+
+-- Where each answer comes: 0 where the run came to its end, 2 for a race, 3 for a fault, 4 for a spent limit, 1 where
+-- the source is refused, 5 where the words are no command, 6 and 7 where a reading or a write failed, and 8 where memory was
+-- wanting. There is no other.
+pub record Causes {W L : Type 0} (asked : Reading) (out : Change W) (log : Change L) (answer : ℕ) : Type 0 where
+  pub done : CausesOfRun 0 asked out log answer
+  pub raced : CausesOfRun 2 asked out log answer
+  pub faulted : CausesOfRun 3 asked out log answer
+  pub spent : CausesOfRun 4 asked out log answer
+  pub refused : CausesOfRefused asked answer
+  pub words : CausesOfWords asked.words answer
+  pub read : CausesOfRead asked.words asked.before asked.now answer
+  pub write : CausesOfWrite asked out log answer
+  pub memory : CausesOfMemory out log answer
+  pub status : IsStatus answer
 
 -- No count rose, and where the words name a file, the files tell this source.
-pub record NothingFailed (asked : Reading) (out log : Change) (text : List ℕ) : Type 0 where
+pub record NothingFailed {W L : Type 0} (asked : Reading) (out : Change W) (log : Change L) (text : List ℕ) : Type 0 where
   pub files_no_fault : NoFault asked.before asked.now
   pub out_no_fault : NoWriteFault out
   pub log_no_fault : NoWriteFault log
@@ -136,12 +137,6 @@ pub record NothingFailed (asked : Reading) (out log : Change) (text : List ℕ) 
 
 -- Where nothing failed, the report of the words and of the told source was written whole and its
 -- status is answered; or nothing was written, for want of memory.
-abbrev pub IsComplete : Reading → Change → Change → ℕ → Type 0
+abbrev pub IsComplete : {W L : Type 0} → Reading → Change W → Change L → ℕ → Type 0
 IsComplete asked out log answer =
-    (text : List ℕ) → NothingFailed asked out log text
-    → GaveUp out.before out.now log.before log.now answer ⊎ ((report : Report) × IsReport asked.words (contents text) report × WroteAll report out.before out.now log.before log.now answer)
-
--- Where the sinks have room for each report of this reading, no write fails.
-abbrev pub NoWriteFails : Reading → Option ℕ → Option ℕ → ℕ → Type 0
-NoWriteFails asked out_room log_room answer =
-    ((report : Report) → Reported asked.words asked.told asked.before asked.now report → Fits report out_room log_room) → ¬ (answer ≡ 7)
+    (text : List ℕ) → NothingFailed asked out log text → GaveUp out log answer ⊎ ((report : Report) × IsReport asked.words (contents text) report × WroteAll report out log answer)

@@ -1,6 +1,6 @@
 -- The report: what the program writes and answers, from its words and the outcome of the file's
 -- reading. This project's own.
-use Rattle.std.specs.Prelude.{◌≡◌, ℕ, Bool, false, not, ◌&&◌, ◌==◌, List, [], ◌∷◌, ◌++◌, take, codes, decimal, Option, Some, None, MatchOption, IfSome, if◌then◌else◌, ◌⊎◌}
+use Rattle.std.specs.Prelude.{◌≡◌, ◌≤◌, ℕ, Bool, false, not, ◌&&◌, ◌==◌, List, [], ◌∷◌, ◌++◌, length, take, codes, decimal, Option, Some, None, MatchOption, IfSome, if◌then◌else◌, ◌⊎◌}
 use Rattle.std.specs.Str.{bytes_eq, is_utf8}
 use Rattle.dc_int.specs.declared.fault.Why.{Why}
 use Rattle.dc_code.specs.Inner.{judging}
@@ -13,7 +13,7 @@ use Rattle.dc_front.specs.Form.{Spells}
 use Rattle.dc_outer.specs.Causes.{Rose}
 use Rattle.dc_run.specs.Playing as playing
 use Rattle.dc_run.specs.ReportLine.{Ending, done, bad, stopped, outside_names, report_line}
-use Rattle.dc_run.specs.VisitOrders.{HoldsAtVisits}
+use Rattle.dc_run.specs.Headline.{Reports}
 use Rattle.docon.specs.declared.report.Report.{Report}
 
 abbrev pub feed : List ℕ
@@ -79,17 +79,13 @@ status_of done = 0
 status_of (bad failure) = status_of_why failure.why
 status_of (stopped verdict bounds) = status_of_trouble (trouble_in verdict)
 
--- What the run wrote, the line that tells how it ended, and its status.
-abbrev pub report_of : List Symbol → playing.Outcome → Report
-report_of symbols outcome = record { out = outcome.output; log = report_line (outside_names symbols) outcome.ending; status = status_of outcome.ending }
-
--- The report is that of the program's run. And at each loop that the run reaches, what is said of the loop
--- holds in every order of its iterations: where it goes on, each order ends with the one store with which the
--- run goes on; an iteration that doesn't end well ends each order that it begins; and the two that race break
--- the restriction of the named element in each order that they begin.
+-- The report of a program's run, which `Reports` is about: what the run wrote, the line that tells how it
+-- ended, and its status.
 pub record IsRunReport (symbols : List Symbol) (source : Source) (report : Report) : Type 0 where
-  pub is : report ≡ report_of symbols (run_of symbols source)
-  pub orders : HoldsAtVisits symbols source default_turns []
+  pub ending : Ending
+  pub ran : Reports symbols source default_turns [] report.out ending
+  pub log_is : report.log ≡ report_line (outside_names symbols) ending
+  pub status_is : report.status ≡ status_of ending
 
 -- The source is accepted: some program is spelled by it, and the report is that of its run.
 pub record RunReport (text : List ℕ) (report : Report) : Type 0 where
@@ -115,12 +111,34 @@ IsReportOf fault report = report ≡ only_log (codes "read: file") 6
 abbrev pub IsReport : List (List ℕ) → Outcome → Report → Type 0
 IsReport words outcome report = MatchOption (file_of words) (report ≡ only_log (codes "words: command") 5) (λ _. IsReportOf outcome report)
 
--- The outcome agrees with the files: bytes are the first of what is held, where that is told, and
--- no fault came; a failed reading raised the count.
+-- What a call has to read: its words, what the files tell under a name, and their count of faults before the
+-- call and after it.
+pub record Reading : Type 0 where
+  pub words : List (List ℕ)
+  pub told : List ℕ → Option (List ℕ)
+  pub before : ℕ
+  pub now : ℕ
+
+abbrev pub reading : {F : Type 0} → List (List ℕ) → (F → List ℕ → Option (List ℕ)) → (F → ℕ) → F → F → Reading
+reading words told faults files files' = record { words = words; told = told files; before = faults files; now = faults files' }
+
+-- No fault came, and no more was read than the limit: the first bytes of what is held, where that is told.
+pub record IsRead (held : Option (List ℕ)) (before now : ℕ) (text : List ℕ) : Type 0 where
+  pub within : length text ≤ read_limit
+  pub first : IfSome held (λ whole. text ≡ take read_limit whole)
+  pub steady : now ≡ before
+
+-- The outcome agrees with the files: the source was read, or the reading failed and raised the count.
 abbrev pub HasOutcome : Option (List ℕ) → ℕ → ℕ → Outcome → Type 0
-HasOutcome held before now (contents text) = IfSome held (λ whole. text ≡ take read_limit whole) × (now ≡ before)
+HasOutcome held before now (contents text) = IsRead held before now text
 HasOutcome held before now fault = Rose before now
 
 -- The reading that the words ask for.
-abbrev pub IsReading : List (List ℕ) → (List ℕ → Option (List ℕ)) → ℕ → ℕ → Outcome → Type 0
-IsReading words told before now outcome = MatchOption (file_of words) (now ≡ before) (λ file. HasOutcome (told file) before now outcome)
+abbrev pub IsReading : Reading → Outcome → Type 0
+IsReading asked outcome = MatchOption (file_of asked.words) (asked.now ≡ asked.before) (λ file. HasOutcome (asked.told file) asked.before asked.now outcome)
+
+-- The report of a call: of its words and of the outcome of its reading.
+pub record Reported (asked : Reading) (report : Report) : Type 0 where
+  pub outcome : Outcome
+  pub read : IsReading asked outcome
+  pub is_report : IsReport asked.words outcome report

@@ -2,71 +2,68 @@
 use Rattle.std.specs.Prelude.{◌≡◌, ℕ, ◌<◌, Bool, true, false, List, ◌++◌, length, take, Option, option_map, ◌⊎◌}
 use Rattle.dc_outer.specs.Causes.{Rose}
 use Rattle.docon.specs.declared.report.Report.{Report}
-use Rattle.docon.specs.Report.{Outcome, IsReport, IsReading}
+use Rattle.docon.specs.Report.{Reading, Reported}
 
--- A sink as it is seen: the bytes that it took, where it tells, and its count of faults.
-pub record Seen : Type 0 where
-  pub taken : Option (List ℕ)
-  pub faults : ℕ
+-- A sink before a call and after it, with what is told of it: the bytes that it took, how many bytes more it
+-- takes for sure, and its count of faults.
+pub record Change (T : Type 0) : Type 0 where
+  pub taken : T → Option (List ℕ)
+  pub room : T → Option ℕ
+  pub faults : T → ℕ
+  pub before : T
+  pub now : T
 
-abbrev pub seen : Option (List ℕ) → ℕ → Seen
-seen taken faults = record { taken = taken; faults = faults }
+abbrev pub change : {T : Type 0} → (T → Option (List ℕ)) → (T → Option ℕ) → (T → ℕ) → T → T → Change T
+change taken room faults before now = record { taken = taken; room = room; faults = faults; before = before; now = now }
 
 -- the sink took exactly these bytes, and no fault came
-pub record Took (before now : Seen) (bytes : List ℕ) : Type 0 where
-  pub taken : now.taken ≡ option_map (λ held. held ++ bytes) before.taken
-  pub steady : now.faults ≡ before.faults
+pub record Took {T : Type 0} (sink : Change T) (bytes : List ℕ) : Type 0 where
+  pub taken : sink.taken sink.now ≡ option_map (λ held. held ++ bytes) (sink.taken sink.before)
+  pub steady : sink.faults sink.now ≡ sink.faults sink.before
 
 -- the sink took a proper prefix of these bytes, and then failed
-pub record FailedIn (before now : Seen) (bytes : List ℕ) : Type 0 where
+pub record FailedIn {T : Type 0} (sink : Change T) (bytes : List ℕ) : Type 0 where
   pub count : ℕ
   pub proper : count < length bytes
-  pub taken : now.taken ≡ option_map (λ held. held ++ take count bytes) before.taken
-  pub rose : Rose before.faults now.faults
+  pub taken : sink.taken sink.now ≡ option_map (λ held. held ++ take count bytes) (sink.taken sink.before)
+  pub rose : Rose (sink.faults sink.before) (sink.faults sink.now)
 
 -- the answer of writing all: whether the sink took all
-abbrev pub WritesAll : Seen → Seen → List ℕ → Bool → Type 0
-WritesAll before now bytes true = Took before now bytes
-WritesAll before now bytes false = FailedIn before now bytes
+abbrev pub WritesAll : {T : Type 0} → Change T → List ℕ → Bool → Type 0
+WritesAll sink bytes true = Took sink bytes
+WritesAll sink bytes false = FailedIn sink bytes
 
--- nothing was written
-abbrev pub Untouched : Seen → Seen → Type 0
-Untouched before now = now ≡ before
+-- the sink is as it was
+abbrev pub Untouched : {T : Type 0} → Change T → Type 0
+Untouched sink = sink.now ≡ sink.before
 
 -- The report was written whole, and its status is answered.
-pub record WroteAll (report : Report) (out out' log log' : Seen) (status : ℕ) : Type 0 where
-  pub out_all : Took out out' report.out
-  pub log_all : Took log log' report.log
-  pub status_is : status ≡ report.status
+pub record WroteAll {W L : Type 0} (report : Report) (out : Change W) (log : Change L) (answer : ℕ) : Type 0 where
+  pub out_all : Took out report.out
+  pub log_all : Took log report.log
+  pub answer_is : answer ≡ report.status
 
--- Out failed: a proper prefix stands there, and nothing was written to the log.
-pub record OutFailed (report : Report) (out out' log log' : Seen) (status : ℕ) : Type 0 where
-  pub out_part : FailedIn out out' report.out
-  pub log_none : Untouched log log'
-  pub status_is : status ≡ 7
+-- Out failed: a proper prefix stands there, and the log is as it was.
+pub record OutFailed {W L : Type 0} (report : Report) (out : Change W) (log : Change L) (answer : ℕ) : Type 0 where
+  pub out_part : FailedIn out report.out
+  pub log_none : Untouched log
+  pub answer_is : answer ≡ 7
 
 -- The log failed: all of out stands, and a proper prefix of the log.
-pub record LogFailed (report : Report) (out out' log log' : Seen) (status : ℕ) : Type 0 where
-  pub out_all : Took out out' report.out
-  pub log_part : FailedIn log log' report.log
-  pub status_is : status ≡ 7
+pub record LogFailed {W L : Type 0} (report : Report) (out : Change W) (log : Change L) (answer : ℕ) : Type 0 where
+  pub out_all : Took out report.out
+  pub log_part : FailedIn log report.log
+  pub answer_is : answer ≡ 7
 
--- Want of memory: nothing was written.
-pub record GaveUp (out out' log log' : Seen) (status : ℕ) : Type 0 where
-  pub out_none : Untouched out out'
-  pub log_none : Untouched log log'
-  pub status_is : status ≡ 8
+-- Want of memory: both sinks are as they were.
+pub record GaveUp {W L : Type 0} (out : Change W) (log : Change L) (answer : ℕ) : Type 0 where
+  pub out_none : Untouched out
+  pub log_none : Untouched log
+  pub answer_is : answer ≡ 8
 
-abbrev pub IsWritten : Report → Seen → Seen → Seen → Seen → ℕ → Type 0
-IsWritten report out out' log log' status = WroteAll report out out' log log' status ⊎ (OutFailed report out out' log log' status ⊎ LogFailed report out out' log log' status)
-
--- The report of a call: of its words and of the outcome of its reading.
-pub record Reported (words : List (List ℕ)) (told : List ℕ → Option (List ℕ)) (before now : ℕ) (report : Report) : Type 0 where
-  pub outcome : Outcome
-  pub read : IsReading words told before now outcome
-  pub is_report : IsReport words outcome report
+abbrev pub IsWritten : {W L : Type 0} → Report → Change W → Change L → ℕ → Type 0
+IsWritten report out log answer = WroteAll report out log answer ⊎ (OutFailed report out log answer ⊎ LogFailed report out log answer)
 
 -- The call wrote the report of its words and of its reading, or gave up for want of memory.
-abbrev pub WritesReport : List (List ℕ) → (List ℕ → Option (List ℕ)) → ℕ → ℕ → Seen → Seen → Seen → Seen → ℕ → Type 0
-WritesReport words told before now out out' log log' status =
-    GaveUp out out' log log' status ⊎ ((report : Report) × Reported words told before now report × IsWritten report out out' log log' status)
+abbrev pub WritesReport : {W L : Type 0} → Reading → Change W → Change L → ℕ → Type 0
+WritesReport asked out log answer = GaveUp out log answer ⊎ ((report : Report) × Reported asked report × IsWritten report out log answer)

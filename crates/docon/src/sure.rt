@@ -1,13 +1,16 @@
 ghost use Rattle.std.specs.Prelude.{◌≡◌};
-ghost use Rattle.docon.specs.Sure.{HasSureRoom, WritesSurely};
+ghost use Rattle.docon.specs.Answers.{Answers, KeepsFiles};
+ghost use Rattle.docon.specs.Report.{reading};
+ghost use Rattle.docon.specs.Sure.{sure_change, sure_told, no_faults, HasSureRoom, WritesSurely};
 
 use crate::top::docon;
 use dc_outer::{BytesInSure, BytesOutSure, FilesSure, OpenGate};
 use dc_text::DcText;
 use std::alloc::Global;
 
-/// Runs a command over files and input that never fail, and over sinks that fail only where they
-/// are full. With room for the report it is written whole, or nothing is, for want of memory.
+/// `docon` over files and input that never fail, and over sinks that fail only where they are full: all
+/// that `docon` promises, and that no reading fails. With room for the report it is written whole, or
+/// nothing is, for want of memory.
 pub fn run_sure(
     alloc: Global,
     words: &[DcText],
@@ -16,10 +19,12 @@ pub fn run_sure(
     out: &mut BytesOutSure,
     log: &mut BytesOutSure,
 ) -> u8
+    ensures answers { let asked = reading words.now sure_told no_faults files.old files.new in
+        Answers asked (sure_change out.old out.new) (sure_change log.old log.new) result }
+    ensures unchanged { KeepsFiles words.now sure_told no_faults files.old files.new × (input.new ≡ input.old) }
     ensures reads { ¬ (result ≡ 6) }
-    ensures writes { HasSureRoom words.now files.old out.old log.old → ¬ (result ≡ 7) }
     ensures whole { HasSureRoom words.now files.old out.old log.old
-        → WritesSurely words.now files.old out.old out.new log.old log.new result }
+        → WritesSurely words.now files.old (sure_change out.old out.new) (sure_change log.old log.new) result }
 {
     docon(alloc, words, files, input, out, log, &OpenGate)
 }

@@ -1,7 +1,7 @@
-ghost use Rattle.std.specs.Prelude.{◌≡◌, None, IfOk};
-ghost use Rattle.docon.specs.Causes.{reading, change, IsStatus, CausesOfRun, CausesOfRefused, CausesOfWords, CausesOfRead, CausesOfWrite, CausesOfMemory, IsComplete, NoWriteFails};
-ghost use Rattle.docon.specs.Report.{file_of as named_file};
-ghost use Rattle.docon.specs.Writing.{Reported, WritesReport, seen};
+ghost use Rattle.std.specs.Prelude.{◌≡◌, IfOk};
+ghost use Rattle.docon.specs.Answers.{Answers, KeepsFiles};
+ghost use Rattle.docon.specs.Report.{reading, Reported};
+ghost use Rattle.docon.specs.Writing.{change};
 
 use crate::command::file_of;
 use crate::report::{Report, only_log, source_report};
@@ -25,8 +25,8 @@ fn report<F: Files, G: Gate + Sync>(
     files: &mut F,
     gate: &G,
 ) -> Result<Report, NoMemory>
-    ensures report { IfOk result (Reported words.now (F.told files.old) (F.faults files.old) (F.faults files.new)) }
-    ensures unread { named_file words.now ≡ None → files.new ≡ files.old }
+    ensures report { IfOk result (Reported (reading words.now F.told F.faults files.old files.new)) }
+    ensures files_kept { KeepsFiles words.now F.told F.faults files.old files.new }
 {
     let Some(file) = file_of(words) else {
         return only_log(alloc, b"words: command", WORDS);
@@ -39,8 +39,21 @@ fn report<F: Files, G: Gate + Sync>(
 }
 
 /// Runs the command that the words of a command line name, without the program's own name, and
-/// answers the status of the process. Statuses and the lines of the log are listed in
-/// `docs/REPORTS.md`.
+/// answers the status of the process.
+///
+/// **For every accepted source, whatever the input and whatever the gate does, what is written is the
+/// report of the source's run. Each loop that the run reaches ends with the one store that every order
+/// of its iterations gives, and the run goes on with that store. Or the run ends there, and the report
+/// names a fault or a spent limit with which one iteration ends every order that it begins, or an
+/// element and two iterations which, run first and in succession, break its restriction.** What goes
+/// wrong in the header of a loop or outside loops belongs to no iteration, and is reported as it comes.
+///
+/// This is `Reports`, in `specs/Headline.antt` of dc_run, which the field `report` of `Answers` says of
+/// the source that was read, unless a write failed or memory was wanting. The field `causes` says where
+/// each status comes, and `complete` that all was written where nothing failed. The clause `unchanged`
+/// says what stays as it was. Statuses and the lines of the log are listed in `docs/REPORTS.md`.
+///
+/// The turns are 1,000,000. No statement of today spends one, reads, or is run by workers.
 pub fn docon<F: Files, S: Source, W: Sink, L: Sink, G: Gate + Sync>(
     alloc: Global,
     words: &[DcText],
@@ -50,37 +63,11 @@ pub fn docon<F: Files, S: Source, W: Sink, L: Sink, G: Gate + Sync>(
     log: &mut L,
     gate: &G,
 ) -> u8
-    ensures report { WritesReport words.now (F.told files.old) (F.faults files.old) (F.faults files.new)
-        (seen (W.taken out.old) (W.faults out.old)) (seen (W.taken out.new) (W.faults out.new))
-        (seen (L.taken log.old) (L.faults log.old)) (seen (L.taken log.new) (L.faults log.new)) result }
-    ensures input { input.new ≡ input.old }
-    ensures unread { named_file words.now ≡ None → files.new ≡ files.old }
-    ensures status { IsStatus result }
-    ensures done { CausesOfRun 0 (reading words.now (F.told files.old) (F.faults files.old) (F.faults files.new))
-        (change (W.taken out.old) (W.faults out.old) (W.taken out.new) (W.faults out.new))
-        (change (L.taken log.old) (L.faults log.old) (L.taken log.new) (L.faults log.new)) result }
-    ensures raced { CausesOfRun 2 (reading words.now (F.told files.old) (F.faults files.old) (F.faults files.new))
-        (change (W.taken out.old) (W.faults out.old) (W.taken out.new) (W.faults out.new))
-        (change (L.taken log.old) (L.faults log.old) (L.taken log.new) (L.faults log.new)) result }
-    ensures faulted { CausesOfRun 3 (reading words.now (F.told files.old) (F.faults files.old) (F.faults files.new))
-        (change (W.taken out.old) (W.faults out.old) (W.taken out.new) (W.faults out.new))
-        (change (L.taken log.old) (L.faults log.old) (L.taken log.new) (L.faults log.new)) result }
-    ensures spent { CausesOfRun 4 (reading words.now (F.told files.old) (F.faults files.old) (F.faults files.new))
-        (change (W.taken out.old) (W.faults out.old) (W.taken out.new) (W.faults out.new))
-        (change (L.taken log.old) (L.faults log.old) (L.taken log.new) (L.faults log.new)) result }
-    ensures refused { CausesOfRefused (reading words.now (F.told files.old) (F.faults files.old) (F.faults files.new)) result }
-    ensures words { CausesOfWords words.now result }
-    ensures read { CausesOfRead words.now (F.faults files.old) (F.faults files.new) result }
-    ensures write { CausesOfWrite (reading words.now (F.told files.old) (F.faults files.old) (F.faults files.new))
-        (change (W.taken out.old) (W.faults out.old) (W.taken out.new) (W.faults out.new))
-        (change (L.taken log.old) (L.faults log.old) (L.taken log.new) (L.faults log.new)) result }
-    ensures memory { CausesOfMemory (change (W.taken out.old) (W.faults out.old) (W.taken out.new) (W.faults out.new))
-        (change (L.taken log.old) (L.faults log.old) (L.taken log.new) (L.faults log.new)) result }
-    ensures complete { IsComplete (reading words.now (F.told files.old) (F.faults files.old) (F.faults files.new))
-        (change (W.taken out.old) (W.faults out.old) (W.taken out.new) (W.faults out.new))
-        (change (L.taken log.old) (L.faults log.old) (L.taken log.new) (L.faults log.new)) result }
-    ensures room { NoWriteFails (reading words.now (F.told files.old) (F.faults files.old) (F.faults files.new))
-        (W.room out.old) (L.room log.old) result }
+    ensures answers { let asked = reading words.now F.told F.faults files.old files.new in
+        let to_out = change W.taken W.room W.faults out.old out.new in
+        let to_log = change L.taken L.room L.faults log.old log.new in
+        Answers asked to_out to_log result }
+    ensures unchanged { KeepsFiles words.now F.told F.faults files.old files.new × (input.new ≡ input.old) }
 {
     match report(alloc, words, files, gate) {
         Ok(report) => write_report(&report, out, log),

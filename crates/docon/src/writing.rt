@@ -1,6 +1,6 @@
 ghost use Rattle.std.specs.Prelude.{◌≡◌, ◌≤◌, length, drop};
 ghost use Rattle.docon.specs.Room.{Fits, WritesInRoom};
-ghost use Rattle.docon.specs.Writing.{Seen, seen, Took, FailedIn, WritesAll, IsWritten};
+ghost use Rattle.docon.specs.Writing.{change, WritesAll, IsWritten};
 
 use crate::report::Report;
 use dc_outer::Sink;
@@ -14,7 +14,7 @@ fn from(bytes: &[u8], at: usize) -> &[u8]
 
 /// Writes all bytes. Whether that went well: else a proper prefix stands, and the sink failed.
 pub(crate) fn write_all<W: Sink>(sink: &mut W, bytes: &[u8]) -> bool
-    ensures written { WritesAll (seen (W.taken sink.old) (W.faults sink.old)) (seen (W.taken sink.new) (W.faults sink.new)) bytes.now result }
+    ensures written { WritesAll (change W.taken W.room W.faults sink.old sink.new) bytes.now result }
     ensures room { WritesInRoom (W.room sink.old) (W.room sink.new) (length bytes.now) result }
 {
     let mut done = 0;
@@ -31,8 +31,8 @@ const WRITE_FAULT: u8 = 7;
 
 /// Writes the report, out before the log, and answers its status, or that a write failed.
 pub(crate) fn write_report<W: Sink, L: Sink>(report: &Report, out: &mut W, log: &mut L) -> u8
-    ensures written { IsWritten report.now (seen (W.taken out.old) (W.faults out.old)) (seen (W.taken out.new) (W.faults out.new))
-        (seen (L.taken log.old) (L.faults log.old)) (seen (L.taken log.new) (L.faults log.new)) result }
+    ensures written { IsWritten report.now (change W.taken W.room W.faults out.old out.new)
+        (change L.taken L.room L.faults log.old log.new) result }
     ensures room { Fits report.now (W.room out.old) (L.room log.old) → result ≡ report.now.status }
 {
     if !write_all(out, report.out.as_bytes()) {

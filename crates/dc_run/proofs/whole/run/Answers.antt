@@ -1,26 +1,37 @@
-use Rattle.std.proofs.Common.{List, subst, ◌∙◌}
+use Rattle.std.proofs.Common.{◌≢◌, List, subst, ◌∙◌}
+use Rattle.dc_code.specs.declared.verdict.Verdict.{Verdict}
 use Rattle.dc_tree.specs.declared.program.Program.{Program}
 use Rattle.dc_tree.specs.declared.symbols.Symbol.{Symbol}
 use Rattle.dc_tree.specs.Blocks.{source_of}
 use Rattle.dc_tree.specs.SmallPrograms.{is_small_program}
 use Rattle.dc_meaning.proofs.Passing.{if-ok}
+use Rattle.dc_run.specs.declared.ending.Ending.{Ending}
 use Rattle.dc_run.specs.declared.running.RunOut.{RunOut}
-use Rattle.dc_run.specs.Answered.{IsRunOf}
-use Rattle.dc_run.proofs.VisitOrders.{visits-hold}
+use Rattle.dc_run.specs.Answered.{ending_of, IsRunOf}
+use Rattle.dc_run.specs.Headline.{Reports}
+use Rattle.dc_run.proofs.Reporting.{reports, never-goes_on}
 use Rattle.dc_run.proofs.whole.run.Goals as goal
 
 pub run_program-requires : goal.run_program-requires
 run_program-requires g c = (λ i. is_small_program (c.symbols.ensures.value i) (source_of (c.program.ensures.value i))) ∙ c.symbols.ensures.small
 
-pub returns-clause-is : goal.returns-clause-is
-returns-clause-is g c =
+pub returns-clause-reports : goal.returns-clause-reports
+returns-clause-reports g c =
+    let symbols = c.args.accepted.now.symbols in
+    let source = source_of c.args.accepted.now.program in
     let given = c.args.input.now in
     let turns = c.args.turns in
-    if-ok _ (λ (out : RunOut). IsRunOf c.args.accepted.now.symbols (source_of c.args.accepted.now.program) turns given out) c.run_program.result
+    if-ok _ (λ (out : RunOut). Reports symbols source turns given out.output (ending_of symbols out.ending)) c.run_program.result
     (λ out is.
-    subst (λ (symbols : List Symbol). IsRunOf symbols (source_of c.args.accepted.now.program) turns given out) c.symbols.ensures.value
-    (subst (λ (program : Program). IsRunOf c.symbols.result.now (source_of program) turns given out) c.program.ensures.value (is given)))
+    reports symbols source turns given out c.symbols.ensures.small
+    (subst (λ (symbols : List Symbol). IsRunOf symbols source turns given out) c.symbols.ensures.value
+    (subst (λ (program : Program). IsRunOf c.symbols.result.now (source_of program) turns given out) c.program.ensures.value (is given))))
     c.run_program.ensures.is
 
-pub returns-clause-orders : goal.returns-clause-orders
-returns-clause-orders g c = visits-hold c.args.accepted.now.symbols (source_of c.args.accepted.now.program) c.args.turns c.args.input.now c.symbols.ensures.small
+pub returns-clause-stops : goal.returns-clause-stops
+returns-clause-stops g c =
+    let symbols = c.args.accepted.now.symbols in
+    let source = source_of c.args.accepted.now.program in
+    if-ok (λ (out : RunOut). Reports symbols source c.args.turns c.args.input.now out.output (ending_of symbols out.ending)) (λ (out : RunOut). out.ending ≢ Ending.Stopped Verdict.GoOn) c.run_program.result
+    (λ out reported. never-goes_on symbols out.ending reported.visits reported.ends)
+    (returns-clause-reports g c)

@@ -1,29 +1,22 @@
-use Rattle.std.proofs.Common.{ap, inr, refl, arith}
-use Rattle.docon.specs.Causes.{Reading, Change, reading, change}
-use Rattle.docon.proofs.Causes.{Wrote, causes_run, causes_refused, causes_words, causes_read, causes_write, causes_memory, complete, is_status, no_write_fails}
+use Rattle.std.proofs.Common.{ap, inl, inr, refl, arith}
+use Rattle.docon.specs.Report.{Reading, reading}
+use Rattle.docon.specs.Writing.{change}
+use Rattle.docon.proofs.Causes.{answers, no_write_fails}
 use Rattle.docon.proofs.top.docon.Goals as goal
 
-pub returns-in-Ok : goal.returns-in-Ok
-returns-in-Ok g c =
-    let asked : Reading = reading c.args.words.now (g.F.Files.told c.args.files.now) (g.F.Files.faults c.args.files.now) (g.F.Files.faults c.report.new.files) in
-    let out : Change = change (g.W.Sink.taken c.args.out.now) (g.W.Sink.faults c.args.out.now) (g.W.Sink.taken c.write_report.new.out) (g.W.Sink.faults c.write_report.new.out) in
-    let log : Change = change (g.L.Sink.taken c.args.log.now) (g.L.Sink.faults c.args.log.now) (g.L.Sink.taken c.write_report.new.log) (g.L.Sink.faults c.write_report.new.log) in
+pub returns-in-Ok-clause-answers : goal.returns-in-Ok-clause-answers
+returns-in-Ok-clause-answers g c =
+    let asked : Reading = reading c.args.words.now g.F.Files.told g.F.Files.faults c.args.files.now c.report.new.files in
+    let out = change g.W.Sink.taken g.W.Sink.room g.W.Sink.faults c.args.out.now c.write_report.new.out in
+    let log = change g.L.Sink.taken g.L.Sink.room g.L.Sink.faults c.args.log.now c.write_report.new.log in
     let answer = c.write_report.result in
-    let wrote : Wrote asked out log answer = inr (c.in-Ok.report, c.in-Ok.ensures.report, c.write_report.ensures.written) in
-    record {
-      report = wrote;
-      input = refl;
-      unread = c.report.ensures.unread;
-      status = is_status asked out log answer wrote;
-      done = causes_run 0 (omega arith) (λ one. omega (arith, one)) asked out log answer wrote;
-      raced = causes_run 2 (omega arith) (λ one. omega (arith, one)) asked out log answer wrote;
-      faulted = causes_run 3 (omega arith) (λ one. omega (arith, one)) asked out log answer wrote;
-      spent = causes_run 4 (omega arith) (λ one. omega (arith, one)) asked out log answer wrote;
-      refused = causes_refused asked out log answer wrote;
-      words = causes_words asked out log answer wrote;
-      read = causes_read asked out log answer wrote (λ nameless. ap g.F.Files.faults (c.report.ensures.unread nameless));
-      write = causes_write asked out log answer wrote;
-      memory = causes_memory asked out log answer wrote;
-      complete = complete asked out log answer wrote;
-      room = no_write_fails asked (g.W.Sink.room c.args.out.now) (g.L.Sink.room c.args.log.now) answer c.in-Ok.report c.in-Ok.ensures.report c.write_report.ensures.room;
-    }
+    answers asked out log answer (inr (c.in-Ok.report, c.in-Ok.ensures.report, c.write_report.ensures.written)) (λ nameless. ap g.F.Files.faults (c.report.ensures.files_kept.unread nameless))
+    (no_write_fails asked out log answer c.in-Ok.report c.in-Ok.ensures.report c.write_report.ensures.room)
+
+pub returns-in-Err-clause-answers : goal.returns-in-Err-clause-answers
+returns-in-Err-clause-answers g c =
+    let asked : Reading = reading c.args.words.now g.F.Files.told g.F.Files.faults c.args.files.now c.report.new.files in
+    let out = change g.W.Sink.taken g.W.Sink.room g.W.Sink.faults c.args.out.now c.args.out.now in
+    let log = change g.L.Sink.taken g.L.Sink.room g.L.Sink.faults c.args.log.now c.args.log.now in
+    answers asked out log 8 (inl (record { out_none = refl; log_none = refl; answer_is = refl })) (λ nameless. ap g.F.Files.faults (c.report.ensures.files_kept.unread nameless))
+    (λ room seven. omega (arith, seven))

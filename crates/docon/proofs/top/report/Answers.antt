@@ -1,8 +1,8 @@
-use Rattle.std.proofs.Common.{ℕ, ◌+◌, List, refl, sym, ap, subst, ◌∙◌}
+use Rattle.std.proofs.Common.{◌≤◌, ◌+◌, ℕ, List, length, refl, sym, ap, subst, ◌∙◌, arith}
 use Rattle.std.specs.Prelude.{IfOk}
 use Rattle.std.specs.Option.{option_copied}
 use Rattle.docon.specs.declared.top.TheConstants.{MOST_SOURCE}
-use Rattle.docon.specs.Report.{IsSourceReport, read_limit}
+use Rattle.docon.specs.Report.{reading, IsSourceReport, read_limit}
 use Rattle.docon.proofs.Reports.{reported}
 use Rattle.docon.proofs.top.report.Goals as goal
 
@@ -10,5 +10,8 @@ pub returns-in-Ok-clause-report : goal.returns-in-Ok-clause-report
 unfolding read_limit
 returns-in-Ok-clause-report g c =
     let sourced = subst (λ (x : List ℕ). IfOk c.source_report.result (IsSourceReport x)) c.as_slice.ensures.value c.source_report.ensures in
-    reported c.args.words.now (g.F.Files.told c.args.files.now) (g.F.Files.faults c.args.files.now) (g.F.Files.faults c.read.new.self) c.in-Some.file.now c.in-Ok.text.items c.source_report.result
-    (sym c.file_of.ensures ∙ ap option_copied c.in-Some.is) (MOST_SOURCE + 1) refl c.in-Ok.ensures.held c.in-Ok.ensures.count.ok sourced
+    let size = c.in-Ok.text.ok.0 in
+    let within = c.in-Ok.ensures.within in
+    let short : length c.in-Ok.text.items ≤ MOST_SOURCE + 1 = omega (arith, size, within) in
+    reported (reading c.args.words.now g.F.Files.told g.F.Files.faults c.args.files.now c.read.new.self) c.in-Some.file.now c.in-Ok.text.items c.source_report.result
+    (sym c.file_of.ensures ∙ ap option_copied c.in-Some.is) (MOST_SOURCE + 1) refl short c.in-Ok.ensures.held c.in-Ok.ensures.count.ok sourced
