@@ -11,15 +11,17 @@ ghost use Rattle.dc_parts.specs.Deeds.{past_closing, past_comma, called, errs, p
 use crate::targets::{ItemPart, TargetPart, target};
 use dc_slices::{
     ExprPart, Keyword, Reading, Stop, any_list, arguments, both, expr, followed_list, in_list, is,
-    is_name, known, label, list, past_first, split, whole,
+    known, label, list, past_first, split, whole,
 };
 use dc_text::{DcText, NoMemory};
-use dc_tree::{Action, Mark, Token};
+use dc_tree::{Action, Mark, Token, is_name};
 use std::alloc::Global;
 
 #[tactic(auto, using(dc_slices::proofs::Lists::judged_lemmas))]
 fn call_from(alloc: Global, text: &DcText, tokens: &[Token]) -> Result<Reading<Action>, NoMemory>
-    ensures { IfOk result (λ r. seen deed r ≡ judged (mapped (λ args. call text.now args.0 args.1) (arguments expr tokens.now))) }
+    ensures { IfOk result (λ r.
+        seen deed r
+        ≡ judged (mapped (λ args. call text.now args.0 args.1) (arguments expr tokens.now))) }
 {
     let (brackets, args) = whole!(arguments::<ExprPart>(alloc, tokens)?);
     let name = text.copy(alloc)?;
@@ -42,7 +44,8 @@ fn called(alloc: Global, tokens: &[Token]) -> Result<Reading<Action>, NoMemory>
 
 #[tactic(auto, using(dc_slices::proofs::Lists::judged_lemmas))]
 fn cycled(alloc: Global, tokens: &[Token]) -> Result<Reading<Action>, NoMemory>
-    ensures { IfOk result (λ r. seen deed r ≡ judged (mapped (λ name. cycle name) (label tokens.now))) }
+    ensures { IfOk result (λ r.
+        seen deed r ≡ judged (mapped (λ name. cycle name) (label tokens.now))) }
 {
     let label = whole!(label(alloc, tokens)?);
     Ok(Reading::Whole(Action::Cycle(label)))
@@ -50,7 +53,8 @@ fn cycled(alloc: Global, tokens: &[Token]) -> Result<Reading<Action>, NoMemory>
 
 #[tactic(auto, using(dc_slices::proofs::Lists::judged_lemmas))]
 fn exited(alloc: Global, tokens: &[Token]) -> Result<Reading<Action>, NoMemory>
-    ensures { IfOk result (λ r. seen deed r ≡ judged (mapped (λ name. exit name) (label tokens.now))) }
+    ensures { IfOk result (λ r.
+        seen deed r ≡ judged (mapped (λ name. exit name) (label tokens.now))) }
 {
     let label = whole!(label(alloc, tokens)?);
     Ok(Reading::Whole(Action::Exit(label)))
@@ -68,7 +72,9 @@ fn errs(tokens: &[Token]) -> Result<Reading<Action>, NoMemory>
 
 #[tactic(auto, using(dc_slices::proofs::Lists::judged_lemmas))]
 fn print_items(alloc: Global, tokens: &[Token]) -> Result<Reading<Action>, NoMemory>
-    ensures { IfOk result (λ r. seen deed r ≡ judged (mapped (λ values. print false values) (followed_list item tokens.now))) }
+    ensures { IfOk result (λ r.
+        seen deed r
+        ≡ judged (mapped (λ values. print false values) (followed_list item tokens.now))) }
 {
     let items = whole!(followed_list::<ItemPart>(alloc, tokens)?);
     Ok(Reading::Whole(Action::Print {
@@ -79,7 +85,8 @@ fn print_items(alloc: Global, tokens: &[Token]) -> Result<Reading<Action>, NoMem
 
 #[tactic(auto, using(dc_slices::proofs::Lists::judged_lemmas))]
 fn write_items(alloc: Global, tokens: &[Token]) -> Result<Reading<Action>, NoMemory>
-    ensures { IfOk result (λ r. seen deed r ≡ judged (mapped (λ values. print true values) (any_list item tokens.now))) }
+    ensures { IfOk result (λ r.
+        seen deed r ≡ judged (mapped (λ values. print true values) (any_list item tokens.now))) }
 {
     let items = whole!(any_list::<ItemPart>(alloc, tokens)?);
     Ok(Reading::Whole(Action::Print {
@@ -90,7 +97,9 @@ fn write_items(alloc: Global, tokens: &[Token]) -> Result<Reading<Action>, NoMem
 
 #[tactic(auto, using(dc_slices::proofs::Lists::judged_lemmas))]
 fn read_items(alloc: Global, tokens: &[Token]) -> Result<Reading<Action>, NoMemory>
-    ensures { IfOk result (λ r. seen deed r ≡ judged (mapped (λ places. read false places) (followed_list target tokens.now))) }
+    ensures { IfOk result (λ r.
+        seen deed r
+        ≡ judged (mapped (λ places. read false places) (followed_list target tokens.now))) }
 {
     let items = whole!(followed_list::<TargetPart>(alloc, tokens)?);
     Ok(Reading::Whole(Action::Read {
@@ -101,7 +110,8 @@ fn read_items(alloc: Global, tokens: &[Token]) -> Result<Reading<Action>, NoMemo
 
 #[tactic(auto, using(dc_slices::proofs::Lists::judged_lemmas))]
 fn take_items(alloc: Global, tokens: &[Token]) -> Result<Reading<Action>, NoMemory>
-    ensures { IfOk result (λ r. seen deed r ≡ judged (mapped (λ places. read true places) (any_list target tokens.now))) }
+    ensures { IfOk result (λ r.
+        seen deed r ≡ judged (mapped (λ places. read true places) (any_list target tokens.now))) }
 {
     let items = whole!(any_list::<TargetPart>(alloc, tokens)?);
     Ok(Reading::Whole(Action::Read {
@@ -184,7 +194,8 @@ fn taken(alloc: Global, tokens: &[Token]) -> Result<Reading<Action>, NoMemory>
 
 #[tactic(auto, using(dc_slices::proofs::Lists::judged_lemmas))]
 fn fill_from(alloc: Global, text: &DcText, tokens: &[Token]) -> Result<Reading<Action>, NoMemory>
-    ensures { IfOk result (λ r. seen deed r ≡ judged (mapped (λ values. fill text.now values) (list expr tokens.now))) }
+    ensures { IfOk result (λ r.
+        seen deed r ≡ judged (mapped (λ values. fill text.now values) (list expr tokens.now))) }
 {
     let items = whole!(list::<ExprPart>(alloc, tokens)?);
     let name = text.copy(alloc)?;
@@ -286,7 +297,8 @@ fn deed_named(
     rest: &[Token],
     tokens: &[Token],
 ) -> Result<Reading<Action>, NoMemory>
-    ensures { IfOk result (λ r. seen deed r ≡ judged (deed_by (Some word) text.now rest.now tokens.now)) }
+    ensures { IfOk result (λ r.
+        seen deed r ≡ judged (deed_by (Some word) text.now rest.now tokens.now)) }
 {
     match word {
         Keyword::Call => called(alloc, rest),

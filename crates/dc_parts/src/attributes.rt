@@ -49,7 +49,8 @@ fn intent_of(tokens: &[Token]) -> Reading<Intent>
 
 #[tactic(auto, using(dc_slices::proofs::Lists::judged_lemmas))]
 fn intent_attribute(tokens: &[Token]) -> Result<Reading<Attr>, NoMemory>
-    ensures { IfOk result (λ r. seen attribute r ≡ judged (attribute_named (Some Keyword.Intent) tokens.now)) }
+    ensures { IfOk result (λ r.
+        seen attribute r ≡ judged (attribute_named (Some Keyword.Intent) tokens.now)) }
 {
     let Some(inside) = in_brackets(tokens) else {
         return Ok(Reading::Nothing);
@@ -60,7 +61,8 @@ fn intent_attribute(tokens: &[Token]) -> Result<Reading<Attr>, NoMemory>
 
 #[tactic(auto, using(dc_slices::proofs::Lists::judged_lemmas))]
 fn dimension_attribute(alloc: Global, tokens: &[Token]) -> Result<Reading<Attr>, NoMemory>
-    ensures { IfOk result (λ r. seen attribute r ≡ judged (attribute_named (Some Keyword.Dimension) tokens.now)) }
+    ensures { IfOk result (λ r.
+        seen attribute r ≡ judged (attribute_named (Some Keyword.Dimension) tokens.now)) }
 {
     let bounds = whole!(bounds(alloc, tokens)?);
     Ok(Reading::Whole(Attr::Dimension(bounds)))
@@ -72,7 +74,8 @@ fn attribute_named(
     word: Keyword,
     tokens: &[Token],
 ) -> Result<Reading<Attr>, NoMemory>
-    ensures { IfOk result (λ r. seen attribute r ≡ judged (attribute_named (Some word) tokens.now)) }
+    ensures { IfOk result (λ r.
+        seen attribute r ≡ judged (attribute_named (Some word) tokens.now)) }
 {
     match word {
         Keyword::Parameter => match tokens {

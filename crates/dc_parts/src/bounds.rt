@@ -20,7 +20,8 @@ fn up_to_high(alloc: Global, high: &[Token]) -> Result<Reading<Bound>, NoMemory>
 
 #[tactic(auto, using(dc_slices::proofs::Lists::judged_lemmas))]
 fn from_low(alloc: Global, low: &[Token], high: &[Token]) -> Result<Reading<Bound>, NoMemory>
-    ensures { IfOk result (λ r. seen dimension_of r ≡ judged (dimension_pieces (low.now ∷ high.now ∷ []))) }
+    ensures { IfOk result (λ r.
+        seen dimension_of r ≡ judged (dimension_pieces (low.now ∷ high.now ∷ []))) }
 {
     let (low, high) = whole!(both(expr(alloc, low)?, expr(alloc, high)?));
     let low = Some(low);
@@ -34,7 +35,9 @@ fn more_pieces(
     high: &[Token],
     more: &[&[Token]],
 ) -> Result<Reading<Bound>, NoMemory>
-    ensures { IfOk result (λ r. seen dimension_of r ≡ judged (dimension_pieces (low.now ∷ high.now ∷ map (λ slice. slice.now) more.now))) }
+    ensures { IfOk result (λ r.
+        seen dimension_of r
+        ≡ judged (dimension_pieces (low.now ∷ high.now ∷ map (λ slice. slice.now) more.now))) }
 {
     match more {
         [] => from_low(alloc, low, high),
@@ -44,7 +47,8 @@ fn more_pieces(
 
 #[tactic(auto, using(dc_slices::proofs::Lists::judged_lemmas))]
 fn dimension_pieces(alloc: Global, slices: &[&[Token]]) -> Result<Reading<Bound>, NoMemory>
-    ensures { IfOk result (λ r. seen dimension_of r ≡ judged (dimension_pieces (map (λ slice. slice.now) slices.now))) }
+    ensures { IfOk result (λ r.
+        seen dimension_of r ≡ judged (dimension_pieces (map (λ slice. slice.now) slices.now))) }
 {
     let [first, rest @ ..] = slices else {
         return Ok(Reading::Nothing);
@@ -88,7 +92,8 @@ pub fn bounds(alloc: Global, tokens: &[Token]) -> Result<Reading<DcList<Bound>>,
 /// Bounds that may be absent.
 #[tactic(auto, using(dc_slices::proofs::Lists::judged_lemmas))]
 pub fn shape(alloc: Global, tokens: &[Token]) -> Result<Reading<Option<DcList<Bound>>>, NoMemory>
-    ensures { IfOk result (λ r. seen (option_map (map dimension_of)) r ≡ judged (shape tokens.now)) }
+    ensures { IfOk result (λ r.
+        seen (option_map (map dimension_of)) r ≡ judged (shape tokens.now)) }
 {
     if let [] = tokens {
         return Ok(Reading::Whole(None));

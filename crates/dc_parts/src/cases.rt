@@ -21,7 +21,8 @@ fn range_one(alloc: Global, tokens: &[Token]) -> Result<Reading<Range>, NoMemory
 
 #[tactic(auto, using(dc_slices::proofs::Lists::judged_lemmas))]
 fn range_to(alloc: Global, tokens: &[Token]) -> Result<Reading<Range>, NoMemory>
-    ensures { IfOk result (λ r. seen case_range r ≡ judged (mapped (λ e. up_to e) (expr tokens.now))) }
+    ensures { IfOk result (λ r.
+        seen case_range r ≡ judged (mapped (λ e. up_to e) (expr tokens.now))) }
 {
     let high = whole!(expr(alloc, tokens)?);
     Ok(Reading::Whole(Range::To(high)))
@@ -29,7 +30,8 @@ fn range_to(alloc: Global, tokens: &[Token]) -> Result<Reading<Range>, NoMemory>
 
 #[tactic(auto, using(dc_slices::proofs::Lists::judged_lemmas))]
 fn range_from(alloc: Global, tokens: &[Token]) -> Result<Reading<Range>, NoMemory>
-    ensures { IfOk result (λ r. seen case_range r ≡ judged (mapped (λ e. from e) (expr tokens.now))) }
+    ensures { IfOk result (λ r.
+        seen case_range r ≡ judged (mapped (λ e. from e) (expr tokens.now))) }
 {
     let low = whole!(expr(alloc, tokens)?);
     Ok(Reading::Whole(Range::From(low)))
@@ -37,7 +39,9 @@ fn range_from(alloc: Global, tokens: &[Token]) -> Result<Reading<Range>, NoMemor
 
 #[tactic(auto, using(dc_slices::proofs::Lists::judged_lemmas))]
 fn range_both(alloc: Global, low: &[Token], high: &[Token]) -> Result<Reading<Range>, NoMemory>
-    ensures { IfOk result (λ r. seen case_range r ≡ judged (mapped (λ ends. between ends.0 ends.1) (both (expr low.now) (expr high.now)))) }
+    ensures { IfOk result (λ r.
+        seen case_range r
+        ≡ judged (mapped (λ ends. between ends.0 ends.1) (both (expr low.now) (expr high.now)))) }
 {
     let (low, high) = whole!(both(expr(alloc, low)?, expr(alloc, high)?));
     Ok(Reading::Whole(Range::Both(low, high)))
@@ -63,7 +67,9 @@ fn case_ends(
     high: &[Token],
     more: &[&[Token]],
 ) -> Result<Reading<Range>, NoMemory>
-    ensures { IfOk result (λ r. seen case_range r ≡ judged (case_pieces (low.now ∷ high.now ∷ map (λ slice. slice.now) more.now))) }
+    ensures { IfOk result (λ r.
+        seen case_range r
+        ≡ judged (case_pieces (low.now ∷ high.now ∷ map (λ slice. slice.now) more.now))) }
 {
     match more {
         [] => two_ends(alloc, low, high),
@@ -73,7 +79,8 @@ fn case_ends(
 
 #[tactic(auto, using(dc_slices::proofs::Lists::judged_lemmas))]
 fn case_from(alloc: Global, first: &[Token], rest: &[&[Token]]) -> Result<Reading<Range>, NoMemory>
-    ensures { IfOk result (λ r. seen case_range r ≡ judged (case_pieces (first.now ∷ map (λ slice. slice.now) rest.now))) }
+    ensures { IfOk result (λ r.
+        seen case_range r ≡ judged (case_pieces (first.now ∷ map (λ slice. slice.now) rest.now))) }
 {
     match rest {
         [] => range_one(alloc, first),
@@ -83,7 +90,8 @@ fn case_from(alloc: Global, first: &[Token], rest: &[&[Token]]) -> Result<Readin
 
 #[tactic(auto, using(dc_slices::proofs::Lists::judged_lemmas))]
 fn case_pieces(alloc: Global, slices: &[&[Token]]) -> Result<Reading<Range>, NoMemory>
-    ensures { IfOk result (λ r. seen case_range r ≡ judged (case_pieces (map (λ slice. slice.now) slices.now))) }
+    ensures { IfOk result (λ r.
+        seen case_range r ≡ judged (case_pieces (map (λ slice. slice.now) slices.now))) }
 {
     match slices {
         [] => Ok(Reading::Nothing),

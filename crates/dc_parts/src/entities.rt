@@ -7,9 +7,9 @@ ghost use Rattle.dc_slices.specs.Judging.{judged, seen};
 ghost use Rattle.dc_parts.specs.Parts.{listed_value, scalar_value, value_of, initial_of, shape, entity_from, entity, bare_from, bare_entity};
 
 use crate::bounds::shape;
-use dc_slices::{ExprPart, Part, Reading, Stop, both, expr, in_list, is_name, list, split, whole};
+use dc_slices::{ExprPart, Part, Reading, Stop, both, expr, in_list, list, split, whole};
 use dc_text::{DcText, NoMemory};
-use dc_tree::{Entity, Init, Mark, Token};
+use dc_tree::{Entity, Init, Mark, Token, is_name};
 use std::alloc::Global;
 
 #[tactic(auto, using(dc_slices::proofs::Lists::judged_lemmas))]
@@ -64,7 +64,8 @@ fn entity_from(alloc: Global, text: &DcText, rest: &[Token]) -> Result<Reading<E
 
 #[tactic(auto, using(dc_slices::proofs::Lists::judged_lemmas))]
 fn bare_from(alloc: Global, text: &DcText, rest: &[Token]) -> Result<Reading<Entity>, NoMemory>
-    ensures { IfOk result (λ r. seen declared_of r ≡ judged (mapped (bare_from text.now) (shape rest.now))) }
+    ensures { IfOk result (λ r.
+        seen declared_of r ≡ judged (mapped (bare_from text.now) (shape rest.now))) }
 {
     let bounds = whole!(shape(alloc, rest)?);
     let name = text.copy(alloc)?;

@@ -140,7 +140,8 @@ fn local_in(alloc: Global, text: &DcText, tokens: &[Token]) -> Result<Reading<Lo
 
 #[tactic(auto, using(dc_slices::proofs::Lists::judged_lemmas))]
 fn local_behind(alloc: Global, text: &DcText, tokens: &[Token]) -> Result<Reading<Local>, NoMemory>
-    ensures { IfOk result (λ r. r ≡ judged (given (in_brackets tokens.now) (local_named (keyword text.now)))) }
+    ensures { IfOk result (λ r.
+        r ≡ judged (given (in_brackets tokens.now) (local_named (keyword text.now)))) }
 {
     match in_brackets(tokens) {
         Some(inside) => local_in(alloc, text, inside),

@@ -8,14 +8,15 @@ ghost use Rattle.dc_slices.specs.Judging.{judged, seen};
 ghost use Rattle.dc_slices.specs.declared.cutting.Stop.{Stop};
 ghost use Rattle.dc_parts.specs.Parts.{step_of, limits, ranging_of, ranging};
 
-use dc_slices::{Part, Reading, Stop, both, expr, is_name, pieces, whole};
+use dc_slices::{Part, Reading, Stop, both, expr, pieces, whole};
 use dc_text::{DcText, NoMemory};
-use dc_tree::{Counted, Expr, Index, Mark, Token};
+use dc_tree::{Counted, Expr, Index, Mark, Token, is_name};
 use std::alloc::Global;
 
 #[tactic(auto, using(dc_slices::proofs::Lists::judged_lemmas))]
 fn some_expr(alloc: Global, tokens: &[Token]) -> Result<Reading<Option<Expr>>, NoMemory>
-    ensures { IfOk result (λ r. seen (option_map tree) r ≡ judged (mapped (λ e. Some e) (expr tokens.now))) }
+    ensures { IfOk result (λ r.
+        seen (option_map tree) r ≡ judged (mapped (λ e. Some e) (expr tokens.now))) }
 {
     let value = whole!(expr(alloc, tokens)?);
     Ok(Reading::Whole(Some(value)))
@@ -27,7 +28,9 @@ fn step_rest(
     step: &[Token],
     more: &[&[Token]],
 ) -> Result<Reading<Option<Expr>>, NoMemory>
-    ensures { IfOk result (λ r. seen (option_map tree) r ≡ judged (step_of (step.now ∷ map (λ slice. slice.now) more.now))) }
+    ensures { IfOk result (λ r.
+        seen (option_map tree) r
+        ≡ judged (step_of (step.now ∷ map (λ slice. slice.now) more.now))) }
 {
     match more {
         [] => some_expr(alloc, step),
@@ -37,7 +40,8 @@ fn step_rest(
 
 #[tactic(auto, using(dc_slices::proofs::Lists::judged_lemmas))]
 pub fn step_of(alloc: Global, slices: &[&[Token]]) -> Result<Reading<Option<Expr>>, NoMemory>
-    ensures { IfOk result (λ r. seen (option_map tree) r ≡ judged (step_of (map (λ slice. slice.now) slices.now))) }
+    ensures { IfOk result (λ r.
+        seen (option_map tree) r ≡ judged (step_of (map (λ slice. slice.now) slices.now))) }
 {
     match slices {
         [] => Ok(Reading::Whole(None)),
@@ -51,7 +55,9 @@ fn last_of(
     last: &[Token],
     steps: &[&[Token]],
 ) -> Result<Reading<(Expr, Option<Expr>)>, NoMemory>
-    ensures { IfOk result (λ r. seen (λ found. (tree found.0, option_map tree found.1)) r ≡ judged (both (expr last.now) (step_of (map (λ slice. slice.now) steps.now)))) }
+    ensures { IfOk result (λ r.
+        seen (λ found. (tree found.0, option_map tree found.1)) r
+        ≡ judged (both (expr last.now) (step_of (map (λ slice. slice.now) steps.now)))) }
 {
     let (last, step) = whole!(both(expr(alloc, last)?, step_of(alloc, steps)?));
     Ok(Reading::Whole((last, step)))
@@ -64,7 +70,9 @@ fn limits_of(
     last: &[Token],
     steps: &[&[Token]],
 ) -> Result<Reading<(Expr, (Expr, Option<Expr>))>, NoMemory>
-    ensures { IfOk result (λ r. seen (λ found. (tree found.0, (tree found.1.0, option_map tree found.1.1))) r ≡ judged (limits (first.now ∷ last.now ∷ map (λ slice. slice.now) steps.now))) }
+    ensures { IfOk result (λ r.
+        seen (λ found. (tree found.0, (tree found.1.0, option_map tree found.1.1))) r
+        ≡ judged (limits (first.now ∷ last.now ∷ map (λ slice. slice.now) steps.now))) }
 {
     let (first, late) = whole!(both(expr(alloc, first)?, last_of(alloc, last, steps)?));
     Ok(Reading::Whole((first, late)))
@@ -76,7 +84,9 @@ fn limits_from(
     first: &[Token],
     rest: &[&[Token]],
 ) -> Result<Reading<(Expr, (Expr, Option<Expr>))>, NoMemory>
-    ensures { IfOk result (λ r. seen (λ found. (tree found.0, (tree found.1.0, option_map tree found.1.1))) r ≡ judged (limits (first.now ∷ map (λ slice. slice.now) rest.now))) }
+    ensures { IfOk result (λ r.
+        seen (λ found. (tree found.0, (tree found.1.0, option_map tree found.1.1))) r
+        ≡ judged (limits (first.now ∷ map (λ slice. slice.now) rest.now))) }
 {
     match rest {
         [] => Ok(Reading::Nothing),
@@ -89,7 +99,9 @@ fn limits(
     alloc: Global,
     slices: &[&[Token]],
 ) -> Result<Reading<(Expr, (Expr, Option<Expr>))>, NoMemory>
-    ensures { IfOk result (λ r. seen (λ found. (tree found.0, (tree found.1.0, option_map tree found.1.1))) r ≡ judged (limits (map (λ slice. slice.now) slices.now))) }
+    ensures { IfOk result (λ r.
+        seen (λ found. (tree found.0, (tree found.1.0, option_map tree found.1.1))) r
+        ≡ judged (limits (map (λ slice. slice.now) slices.now))) }
 {
     match slices {
         [] => Ok(Reading::Nothing),
@@ -99,7 +111,8 @@ fn limits(
 
 #[tactic(auto, using(dc_slices::proofs::Lists::judged_lemmas))]
 fn index_from(alloc: Global, text: &DcText, tokens: &[Token]) -> Result<Reading<Index>, NoMemory>
-    ensures { IfOk result (λ r. seen index_ranging r ≡ judged (ranging_of Stop.Colon text.now tokens.now)) }
+    ensures { IfOk result (λ r.
+        seen index_ranging r ≡ judged (ranging_of Stop.Colon text.now tokens.now)) }
 {
     let slices = pieces(alloc, Stop::Colon, tokens)?;
     let (first, (last, step)) = whole!(limits(alloc, slices.as_slice())?);
@@ -140,7 +153,8 @@ fn counted_from(
     text: &DcText,
     tokens: &[Token],
 ) -> Result<Reading<Counted>, NoMemory>
-    ensures { IfOk result (λ r. seen counted_ranging r ≡ judged (ranging_of Stop.Comma text.now tokens.now)) }
+    ensures { IfOk result (λ r.
+        seen counted_ranging r ≡ judged (ranging_of Stop.Comma text.now tokens.now)) }
 {
     let slices = pieces(alloc, Stop::Comma, tokens)?;
     let (first, (last, step)) = whole!(limits(alloc, slices.as_slice())?);

@@ -7,9 +7,9 @@ ghost use Rattle.dc_slices.specs.Finding.{mapped, list, expr};
 ghost use Rattle.dc_slices.specs.Judging.{judged, seen};
 ghost use Rattle.dc_parts.specs.Parts.{subscripts, target_from, target, item};
 
-use dc_slices::{ExprPart, Part, Reading, expr, in_brackets, is_name, list, whole};
+use dc_slices::{ExprPart, Part, Reading, expr, in_brackets, list, whole};
 use dc_text::{DcList, DcText, NoMemory};
-use dc_tree::{Expr, Target, Token};
+use dc_tree::{Expr, Target, Token, is_name};
 use std::alloc::Global;
 
 #[tactic(auto, using(dc_slices::proofs::Lists::judged_lemmas))]
@@ -17,7 +17,9 @@ fn some_subscripts(
     alloc: Global,
     tokens: &[Token],
 ) -> Result<Reading<Option<DcList<Expr>>>, NoMemory>
-    ensures { IfOk result (λ r. seen (option_map (map tree)) r ≡ judged (mapped (λ given. Some given) (list expr tokens.now))) }
+    ensures { IfOk result (λ r.
+        seen (option_map (map tree)) r
+        ≡ judged (mapped (λ given. Some given) (list expr tokens.now))) }
 {
     let values = whole!(list::<ExprPart>(alloc, tokens)?);
     Ok(Reading::Whole(Some(values)))
@@ -38,7 +40,8 @@ fn subscripts(alloc: Global, tokens: &[Token]) -> Result<Reading<Option<DcList<E
 
 #[tactic(auto, using(dc_slices::proofs::Lists::judged_lemmas))]
 fn target_from(alloc: Global, text: &DcText, tokens: &[Token]) -> Result<Reading<Target>, NoMemory>
-    ensures { IfOk result (λ r. seen target_of r ≡ judged (mapped (target_from text.now) (subscripts tokens.now))) }
+    ensures { IfOk result (λ r.
+        seen target_of r ≡ judged (mapped (target_from text.now) (subscripts tokens.now))) }
 {
     let subscripts = whole!(subscripts(alloc, tokens)?);
     let name = text.copy(alloc)?;

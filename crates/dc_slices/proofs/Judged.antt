@@ -3,13 +3,12 @@ use Rattle.std.proofs.Common.{◌≡◌, ◌≤◌, ◌<◌, ℕ, length, drop, 
 use Rattle.std.specs.Prelude.{max, nat_le}
 use Rattle.std.proofs.lemmas.List.{drop_all}
 use Rattle.std.proofs.lemmas.Bool.{cases_Bool, le-leb, leb-true, leb-false, lt-leb}
-use Rattle.dc_tree.specs.declared.fail.Fail.{Fail}
-use Rattle.dc_tree.specs.declared.fail.Refusal.{Refusal}
 use Rattle.dc_tree.specs.declared.token.Token.{Token}
 use Rattle.dc_tree.specs.Syntax.{Tree}
 use Rattle.dc_tree.specs.Grammar.{depth}
 use Rattle.dc_tree.specs.Reader.{reading}
-use Rattle.dc_expr.specs.Answers.{breach, told, outcome}
+use Rattle.dc_expr.specs.declared.reader.Miss.{Miss}
+use Rattle.dc_expr.specs.Answers as limited
 use Rattle.dc_slices.specs.declared.reading.Reading.{Reading}
 use Rattle.dc_slices.specs.Finding.{Found, mapped, both, measured, expr, items}
 use Rattle.dc_slices.specs.Judging.{judged, seen, both_of, added, gathered}
@@ -123,11 +122,11 @@ gathered-items read slices = gathered-front (Reading.Whole []) read slices ∙ f
 
 -- ---- expressions
 
-pub ok-judged : (line : ℕ) (tokens : List Token) (e : Tree) → outcome line tokens ≡ Ok e → Reading.Whole e ≡ judged (expr tokens)
+pub ok-judged : (tokens : List Token) (e : Tree) → limited.within (reading tokens) ≡ Ok e → Reading.Whole e ≡ judged (expr tokens)
 unfolding expr judged
-ok-judged line tokens e ok = go (reading tokens) ok
+ok-judged tokens e ok = go (reading tokens) ok
   where
-    go : (found : Option Tree) → told line found ≡ Ok e → Reading.Whole e ≡ judged (measured found)
+    go : (found : Option Tree) → limited.within found ≡ Ok e → Reading.Whole e ≡ judged (measured found)
     go None is = absurd (cc)
     go (Some t) is =
         elim (cases_Bool (nat_le (depth t) 256)) [
@@ -135,32 +134,31 @@ ok-judged line tokens e ok = go (reading tokens) ok
           | inr deep ↦ let same = rw deep at is in absurd (cc)
         ]
 
-pub deep-judged : (line : ℕ) (tokens : List Token) (refusal : Refusal) → outcome line tokens ≡ Err (Fail.Refused refusal) → refusal.rule ≡ 12 → Reading.Deep ≡ judged (expr tokens)
+pub deep-judged : (tokens : List Token) → limited.within (reading tokens) ≡ Err Miss.Deep → Reading.Deep ≡ judged (expr tokens)
 unfolding expr judged
-deep-judged line tokens refusal err twelve = go (reading tokens) err
+deep-judged tokens err = go (reading tokens) err
   where
-    go : (found : Option Tree) → told line found ≡ Err (Fail.Refused refusal) → Reading.Deep ≡ judged (measured found)
-    go None is = let same : breach 11 line ≡ refusal = cc in let rule : 11 ≡ refusal.rule = ap (λ (r : Refusal). r.rule) same in absurd (omega arith)
+    go : (found : Option Tree) → limited.within found ≡ Err Miss.Deep → Reading.Deep ≡ judged (measured found)
+    go None is = absurd (cc)
     go (Some t) is =
         elim (cases_Bool (nat_le (depth t) 256)) [
           | inl flat ↦ let same = rw flat at is in absurd (cc)
           | inr deep ↦ rw deep refl
         ]
 
-pub none-judged : (line : ℕ) (tokens : List Token) (refusal : Refusal) → outcome line tokens ≡ Err (Fail.Refused refusal) → (refusal.rule ≡ 12 → ⊥) → Reading.Nothing ≡ judged (expr tokens)
+pub none-judged : (tokens : List Token) → limited.within (reading tokens) ≡ Err Miss.Nothing → Reading.Nothing ≡ judged (expr tokens)
 unfolding expr judged
-none-judged line tokens refusal err other = go (reading tokens) err
+none-judged tokens err = go (reading tokens) err
   where
-    go : (found : Option Tree) → told line found ≡ Err (Fail.Refused refusal) → Reading.Nothing ≡ judged (measured found)
+    go : (found : Option Tree) → limited.within found ≡ Err Miss.Nothing → Reading.Nothing ≡ judged (measured found)
     go None is = refl
     go (Some t) is =
         elim (cases_Bool (nat_le (depth t) 256)) [
           | inl flat ↦ let same = rw flat at is in absurd (cc)
-          | inr deep ↦
-              let same : Err (Fail.Refused (breach 12 line)) ≡ Err (Fail.Refused refusal) = rw deep at is in
-              let one : breach 12 line ≡ refusal = cc in
-              absurd (other (sym (ap (λ (r : Refusal). r.rule) one)))
+          | inr deep ↦ let same = rw deep at is in absurd (cc)
         ]
+
+pub ruleset read_lemmas = (ok-judged, deep-judged, none-judged)
 
 -- ---- a loop over all slices
 

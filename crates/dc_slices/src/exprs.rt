@@ -5,31 +5,24 @@ ghost use Rattle.dc_tree.specs.Syntax.{Tree, tree};
 ghost use Rattle.dc_slices.specs.Finding.{expr, name, label, list, arguments};
 ghost use Rattle.dc_slices.specs.Judging.{judged, seen};
 
-use crate::name_words::is_name;
 use crate::parts::{Part, arguments, list};
 use crate::reading::Reading;
 use crate::whole;
-use dc_expr::parse_expr;
+use dc_expr::{Miss, read_expr};
 use dc_text::{DcList, DcText, NoMemory};
-use dc_tree::{Expr, Fail, Token};
+use dc_tree::{Expr, Token, is_name};
 use std::alloc::Global;
 
-const TOO_DEEP: u8 = 12;
-
 /// The expression that the tokens are.
+#[tactic(auto, using(crate::proofs::Judged::read_lemmas))]
 pub fn expr(alloc: Global, tokens: &[Token]) -> Result<Reading<Expr>, NoMemory>
     ensures { IfOk result (λ r. seen tree r ≡ judged (expr tokens.now)) }
 {
-    match parse_expr(alloc, 1, tokens) {
+    match read_expr(alloc, tokens) {
         Ok(whole) => Ok(Reading::Whole(whole)),
-        Err(Fail::NoMemory) => Err(NoMemory),
-        Err(Fail::Refused(refusal)) => {
-            if refusal.rule == TOO_DEEP {
-                Ok(Reading::Deep)
-            } else {
-                Ok(Reading::Nothing)
-            }
-        }
+        Err(Miss::Nothing) => Ok(Reading::Nothing),
+        Err(Miss::Deep) => Ok(Reading::Deep),
+        Err(Miss::NoMemory) => Err(NoMemory),
     }
 }
 

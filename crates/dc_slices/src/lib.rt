@@ -17,7 +17,6 @@ macro_rules! whole {
 mod cutting;
 mod exprs;
 mod keyword;
-mod name_words;
 mod parts;
 mod reading;
 mod slicing;
@@ -26,7 +25,6 @@ mod words;
 pub use cutting::{Class, Stop};
 pub use exprs::{ExprPart, NamePart, dummies, expr, label, name, names};
 pub use keyword::Keyword;
-pub use name_words::is_name;
 pub use parts::{Part, any_list, arguments, followed_list, items, list};
 pub use reading::{Reading, both};
 pub use slicing::{bracket, cuts, in_brackets, in_list, later, led, past_first, pieces, split};

@@ -33,7 +33,8 @@ pub fn items<P: Part>(
     alloc: Global,
     slices: &[&[Token]],
 ) -> Result<Reading<DcList<P::Value>>, NoMemory>
-    ensures { IfOk result (λ r. seen (map P.view) r ≡ judged (items P.finds (map (λ slice. slice.now) slices.now))) }
+    ensures { IfOk result (λ r.
+        seen (map P.view) r ≡ judged (items P.finds (map (λ slice. slice.now) slices.now))) }
 {
     let mut so_far = Reading::Whole(DcList::new(alloc));
     for slice in slices {
@@ -85,7 +86,8 @@ fn some_arguments<P: Part>(
     alloc: Global,
     tokens: &[Token],
 ) -> Result<Reading<(bool, DcList<P::Value>)>, NoMemory>
-    ensures { IfOk result (λ r. seen (λ args. (args.0, map P.view args.1)) r ≡ judged (some_arguments P.finds tokens.now)) }
+    ensures { IfOk result (λ r.
+        seen (λ args. (args.0, map P.view args.1)) r ≡ judged (some_arguments P.finds tokens.now)) }
 {
     let values = whole!(any_list::<P>(alloc, tokens)?);
     Ok(Reading::Whole((true, values)))
@@ -97,7 +99,8 @@ pub fn arguments<P: Part>(
     alloc: Global,
     tokens: &[Token],
 ) -> Result<Reading<(bool, DcList<P::Value>)>, NoMemory>
-    ensures { IfOk result (λ r. seen (λ args. (args.0, map P.view args.1)) r ≡ judged (arguments P.finds tokens.now)) }
+    ensures { IfOk result (λ r.
+        seen (λ args. (args.0, map P.view args.1)) r ≡ judged (arguments P.finds tokens.now)) }
 {
     if let [] = tokens {
         return Ok(Reading::Whole((false, DcList::new(alloc))));

@@ -163,7 +163,8 @@ pub fn led(stop: Stop, tokens: &[Token]) -> (&[Token], &[Token])
 /// The first slice of tokens that begin at a stop, and what follows it.
 fn first_cut(stop: Stop, tokens: &[Token]) -> Option<(&[Token], &[Token])>
     requires { Stopped stop tokens.now }
-    ensures { MatchOption result (tokens.now ≡ []) (λ parts. FirstCut stop tokens.now parts.0.now parts.1.now) }
+    ensures { MatchOption result (tokens.now ≡ [])
+        (λ parts. FirstCut stop tokens.now parts.0.now parts.1.now) }
 {
     if tokens.is_empty() {
         return None;

@@ -18,7 +18,9 @@ type Given = (DcList<Attr>, DcList<Entity>);
 
 #[tactic(auto, using(crate::proofs::Plain::plain_lemmas))]
 fn bare_names(alloc: Global, names: &[Token]) -> Result<Reading<Given>, NoMemory>
-    ensures { IfOk result (λ r. seen (λ given. (map attribute given.0, map declared_of given.1)) r ≡ judged (both (plainly []) (list bare_entity names.now))) }
+    ensures { IfOk result (λ r.
+        seen (λ given. (map attribute given.0, map declared_of given.1)) r
+        ≡ judged (both (plainly []) (list bare_entity names.now))) }
 {
     let entities = whole!(list::<BarePart>(alloc, names)?);
     Ok(Reading::Whole((DcList::new(alloc), entities)))
@@ -30,7 +32,9 @@ fn given_names(
     attributes: &[Token],
     names: &[Token],
 ) -> Result<Reading<Given>, NoMemory>
-    ensures { IfOk result (λ r. seen (λ given. (map attribute given.0, map declared_of given.1)) r ≡ judged (both (followed_list one_attribute attributes.now) (list entity names.now))) }
+    ensures { IfOk result (λ r.
+        seen (λ given. (map attribute given.0, map declared_of given.1)) r
+        ≡ judged (both (followed_list one_attribute attributes.now) (list entity names.now))) }
 {
     let attributes = followed_list::<AttributePart>(alloc, attributes)?;
     let (attrs, entities) = whole!(both(attributes, list::<EntityPart>(alloc, names)?));
@@ -64,7 +68,10 @@ fn full_declaration(
     attributes: &[Token],
     names: &[Token],
 ) -> Result<Reading<Stmt>, NoMemory>
-    ensures { IfOk result (λ r. seen statement r ≡ judged (mapped (declare_from true) (both (type_form form.now) (both (followed_list one_attribute attributes.now) (list entity names.now))))) }
+    ensures { IfOk result (λ r.
+        seen statement r
+        ≡ judged (mapped (declare_from true) (both (type_form form.now) (both
+        (followed_list one_attribute attributes.now) (list entity names.now))))) }
 {
     let given = given_names(alloc, attributes, names)?;
     let (spec, (attrs, entities)) = whole!(both(type_form(alloc, form)?, given));

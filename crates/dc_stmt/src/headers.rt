@@ -43,14 +43,19 @@ fn index_parts(
     front: &[&[Token]],
     back: &[&[Token]],
 ) -> Result<Reading<Ranges>, NoMemory>
-    ensures { IfOk result (λ r. seen (λ found. (map index_ranging found.0, option_map tree found.1)) r ≡ judged (both (items (ranging Stop.Colon) (map (λ slice. slice.now) front.now)) (step_of (map (λ slice. slice.now) back.now)))) }
+    ensures { IfOk result (λ r.
+        seen (λ found. (map index_ranging found.0, option_map tree found.1)) r
+        ≡ judged (both (items (ranging Stop.Colon) (map (λ slice. slice.now) front.now)) (step_of
+        (map (λ slice. slice.now) back.now)))) }
 {
     let (indexes, mask) = whole!(both(items::<IndexPart>(alloc, front)?, step_of(alloc, back)?));
     Ok(Reading::Whole((indexes, mask)))
 }
 
 fn ranges_of(alloc: Global, slices: &[&[Token]]) -> Result<Reading<Ranges>, NoMemory>
-    ensures { IfOk result (λ r. seen (λ found. (map index_ranging found.0, option_map tree found.1)) r ≡ judged (ranges_of (map (λ slice. slice.now) slices.now))) }
+    ensures { IfOk result (λ r.
+        seen (λ found. (map index_ranging found.0, option_map tree found.1)) r
+        ≡ judged (ranges_of (map (λ slice. slice.now) slices.now))) }
 {
     let at = count_indexes(slices);
     if at == 0 {
@@ -61,7 +66,9 @@ fn ranges_of(alloc: Global, slices: &[&[Token]]) -> Result<Reading<Ranges>, NoMe
 }
 
 fn ranges(alloc: Global, tokens: &[Token]) -> Result<Reading<Ranges>, NoMemory>
-    ensures { IfOk result (λ r. seen (λ found. (map index_ranging found.0, option_map tree found.1)) r ≡ judged (ranges tokens.now)) }
+    ensures { IfOk result (λ r.
+        seen (λ found. (map index_ranging found.0, option_map tree found.1)) r
+        ≡ judged (ranges tokens.now)) }
 {
     let slices = pieces(alloc, Stop::Comma, tokens)?;
     ranges_of(alloc, slices.as_slice())
@@ -69,7 +76,9 @@ fn ranges(alloc: Global, tokens: &[Token]) -> Result<Reading<Ranges>, NoMemory>
 
 #[tactic(auto, using(dc_slices::proofs::Lists::judged_lemmas))]
 fn some_type(alloc: Global, tokens: &[Token]) -> Result<Reading<Option<TypeSpec>>, NoMemory>
-    ensures { IfOk result (λ r. seen (option_map type_form) r ≡ judged (mapped (λ given. Some given) (index_type tokens.now))) }
+    ensures { IfOk result (λ r.
+        seen (option_map type_form) r
+        ≡ judged (mapped (λ given. Some given) (index_type tokens.now))) }
 {
     let form = whole!(index_type(alloc, tokens)?);
     Ok(Reading::Whole(Some(form)))
@@ -80,7 +89,12 @@ fn plain_header(
     alloc: Global,
     tokens: &[Token],
 ) -> Result<Reading<(Option<TypeSpec>, Ranges)>, NoMemory>
-    ensures { IfOk result (λ r. seen (λ found. (option_map type_form found.0, (map index_ranging found.1.0, option_map tree found.1.1))) r ≡ judged (both (plainly None) (ranges tokens.now))) }
+    ensures { IfOk result (λ r.
+        seen (λ found. (
+          option_map type_form found.0,
+          (map index_ranging found.1.0, option_map tree found.1.1),
+        )) r
+        ≡ judged (both (plainly None) (ranges tokens.now))) }
 {
     let ranges = whole!(ranges(alloc, tokens)?);
     Ok(Reading::Whole((None, ranges)))
@@ -92,7 +106,12 @@ fn typed_header(
     form: &[Token],
     tokens: &[Token],
 ) -> Result<Reading<(Option<TypeSpec>, Ranges)>, NoMemory>
-    ensures { IfOk result (λ r. seen (λ found. (option_map type_form found.0, (map index_ranging found.1.0, option_map tree found.1.1))) r ≡ judged (both (mapped (λ given. Some given) (index_type form.now)) (ranges tokens.now))) }
+    ensures { IfOk result (λ r.
+        seen (λ found. (
+          option_map type_form found.0,
+          (map index_ranging found.1.0, option_map tree found.1.1),
+        )) r
+        ≡ judged (both (mapped (λ given. Some given) (index_type form.now)) (ranges tokens.now))) }
 {
     let (spec, ranges) = whole!(both(some_type(alloc, form)?, ranges(alloc, tokens)?));
     Ok(Reading::Whole((spec, ranges)))
@@ -104,7 +123,12 @@ pub fn header(
     alloc: Global,
     tokens: &[Token],
 ) -> Result<Reading<(Option<TypeSpec>, Ranges)>, NoMemory>
-    ensures { IfOk result (λ r. seen (λ found. (option_map type_form found.0, (map index_ranging found.1.0, option_map tree found.1.1))) r ≡ judged (header tokens.now)) }
+    ensures { IfOk result (λ r.
+        seen (λ found. (
+          option_map type_form found.0,
+          (map index_ranging found.1.0, option_map tree found.1.1),
+        )) r
+        ≡ judged (header tokens.now)) }
 {
     let (front, back) = split(Stop::Colons, tokens);
     match back {

@@ -88,7 +88,8 @@ fn same_shape(one: Shape, other: Shape) -> bool
 }
 
 fn has_shape(shape: Shape, slices: &[&[Token]]) -> bool
-    ensures { result ≡ list_any (same_shape shape) (map slice_shape (map (λ slice. slice.now) slices.now)) }
+    ensures { result ≡ list_any (same_shape shape) (map slice_shape (map
+        (λ slice. slice.now) slices.now)) }
 {
     for slice in slices {
         if same_shape(shape, slice_shape(slice)) {
@@ -118,7 +119,8 @@ pub fn fits_shapes(function: bool, slices: &[&[Token]]) -> bool
 
 #[tactic(auto, using(dc_slices::proofs::Lists::judged_lemmas))]
 fn typed_prefix(alloc: Global, slice: &[Token]) -> Result<Reading<Prefix>, NoMemory>
-    ensures { IfOk result (λ r. seen prefixed r ≡ judged (mapped (λ form. typed form) (type_form slice.now))) }
+    ensures { IfOk result (λ r.
+        seen prefixed r ≡ judged (mapped (λ form. typed form) (type_form slice.now))) }
 {
     let form = whole!(type_form(alloc, slice)?);
     Ok(Reading::Whole(Prefix::Typed(form)))
@@ -131,7 +133,8 @@ fn prefix_named(
     tokens: &[Token],
     slice: &[Token],
 ) -> Result<Reading<Prefix>, NoMemory>
-    ensures { IfOk result (λ r. seen prefixed r ≡ judged (prefix_named (Some word) tokens.now slice.now)) }
+    ensures { IfOk result (λ r.
+        seen prefixed r ≡ judged (prefix_named (Some word) tokens.now slice.now)) }
 {
     match word {
         Keyword::Pure => match tokens {

@@ -11,7 +11,8 @@ ghost use Rattle.dc_stmt.specs.Answers.{IsSo};
 
 /// Tokens spell one statement at most.
 pub fn tokens_spell_one_statement()
-    ensures { (one other : Statement) → RankedStatement one → RankedStatement other → spell_statement one ≡ spell_statement other → one ≡ other }
+    ensures { (one other : Statement) → RankedStatement one → RankedStatement other → spell_statement one
+        ≡ spell_statement other → one ≡ other }
 {}
 
 /// What the reading by the first words tells of tokens is so: it finds the statement that they spell,

@@ -21,7 +21,8 @@ use std::alloc::Global;
 /// What follows PROGRAM.
 #[tactic(auto, using(dc_slices::proofs::Lists::judged_lemmas))]
 pub fn program(alloc: Global, tokens: &[Token]) -> Result<Reading<Stmt>, NoMemory>
-    ensures { IfOk result (λ r. seen statement r ≡ judged (mapped (λ name. program_line name) (name tokens.now))) }
+    ensures { IfOk result (λ r.
+        seen statement r ≡ judged (mapped (λ name. program_line name) (name tokens.now))) }
 {
     let text = whole!(name(alloc, tokens)?);
     Ok(Reading::Whole(Stmt::Program(text)))
@@ -51,7 +52,8 @@ pub fn implicit(tokens: &[Token]) -> Result<Reading<Stmt>, NoMemory>
 
 #[tactic(auto, using(dc_slices::proofs::Lists::judged_lemmas))]
 fn end_of(alloc: Global, unit: Unit, tokens: &[Token]) -> Result<Reading<Stmt>, NoMemory>
-    ensures { IfOk result (λ r. seen statement r ≡ judged (mapped (λ text. end_line (Some unit) text) (label tokens.now))) }
+    ensures { IfOk result (λ r.
+        seen statement r ≡ judged (mapped (λ text. end_line (Some unit) text) (label tokens.now))) }
 {
     let name = whole!(label(alloc, tokens)?);
     let unit = Some(unit);
@@ -60,7 +62,8 @@ fn end_of(alloc: Global, unit: Unit, tokens: &[Token]) -> Result<Reading<Stmt>, 
 
 #[tactic(auto, using(dc_slices::proofs::Lists::judged_lemmas))]
 fn end_do(alloc: Global, tokens: &[Token]) -> Result<Reading<Stmt>, NoMemory>
-    ensures { IfOk result (λ r. seen statement r ≡ judged (mapped (λ text. end_do text) (label tokens.now))) }
+    ensures { IfOk result (λ r.
+        seen statement r ≡ judged (mapped (λ text. end_do text) (label tokens.now))) }
 {
     let label = whole!(label(alloc, tokens)?);
     Ok(Reading::Whole(Stmt::EndDo(label)))
@@ -68,7 +71,8 @@ fn end_do(alloc: Global, tokens: &[Token]) -> Result<Reading<Stmt>, NoMemory>
 
 #[tactic(auto, using(dc_slices::proofs::Lists::judged_lemmas))]
 fn end_if(tokens: &[Token]) -> Result<Reading<Stmt>, NoMemory>
-    ensures { IfOk result (λ r. seen statement r ≡ judged (ended_named (Some Keyword.If) tokens.now)) }
+    ensures { IfOk result (λ r.
+        seen statement r ≡ judged (ended_named (Some Keyword.If) tokens.now)) }
 {
     match tokens {
         [] => Ok(Reading::Whole(Stmt::EndIf)),
@@ -78,7 +82,8 @@ fn end_if(tokens: &[Token]) -> Result<Reading<Stmt>, NoMemory>
 
 #[tactic(auto, using(dc_slices::proofs::Lists::judged_lemmas))]
 fn end_select(tokens: &[Token]) -> Result<Reading<Stmt>, NoMemory>
-    ensures { IfOk result (λ r. seen statement r ≡ judged (ended_named (Some Keyword.Select) tokens.now)) }
+    ensures { IfOk result (λ r.
+        seen statement r ≡ judged (ended_named (Some Keyword.Select) tokens.now)) }
 {
     match tokens {
         [] => Ok(Reading::Whole(Stmt::EndSelect)),
@@ -139,7 +144,8 @@ fn is_then(tokens: &[Token]) -> bool
 
 #[tactic(auto, using(dc_slices::proofs::Lists::judged_lemmas))]
 fn if_then(alloc: Global, tokens: &[Token]) -> Result<Reading<Stmt>, NoMemory>
-    ensures { IfOk result (λ r. seen statement r ≡ judged (mapped (λ e. if_then e) (expr tokens.now))) }
+    ensures { IfOk result (λ r.
+        seen statement r ≡ judged (mapped (λ e. if_then e) (expr tokens.now))) }
 {
     let test = whole!(expr(alloc, tokens)?);
     Ok(Reading::Whole(Stmt::IfThen(test)))
@@ -147,7 +153,8 @@ fn if_then(alloc: Global, tokens: &[Token]) -> Result<Reading<Stmt>, NoMemory>
 
 #[tactic(auto, using(dc_slices::proofs::Lists::judged_lemmas))]
 fn else_if(alloc: Global, tokens: &[Token]) -> Result<Reading<Stmt>, NoMemory>
-    ensures { IfOk result (λ r. seen statement r ≡ judged (mapped (λ e. else_if e) (expr tokens.now))) }
+    ensures { IfOk result (λ r.
+        seen statement r ≡ judged (mapped (λ e. else_if e) (expr tokens.now))) }
 {
     let test = whole!(expr(alloc, tokens)?);
     Ok(Reading::Whole(Stmt::ElseIf(test)))
@@ -155,7 +162,8 @@ fn else_if(alloc: Global, tokens: &[Token]) -> Result<Reading<Stmt>, NoMemory>
 
 #[tactic(auto, using(dc_slices::proofs::Lists::judged_lemmas))]
 fn select(alloc: Global, tokens: &[Token]) -> Result<Reading<Stmt>, NoMemory>
-    ensures { IfOk result (λ r. seen statement r ≡ judged (mapped (λ e. select_case e) (expr tokens.now))) }
+    ensures { IfOk result (λ r.
+        seen statement r ≡ judged (mapped (λ e. select_case e) (expr tokens.now))) }
 {
     let test = whole!(expr(alloc, tokens)?);
     Ok(Reading::Whole(Stmt::Select(test)))
@@ -163,7 +171,10 @@ fn select(alloc: Global, tokens: &[Token]) -> Result<Reading<Stmt>, NoMemory>
 
 #[tactic(auto, using(dc_slices::proofs::Lists::judged_lemmas))]
 fn if_action(alloc: Global, inside: &[Token], after: &[Token]) -> Result<Reading<Stmt>, NoMemory>
-    ensures { IfOk result (λ r. seen statement r ≡ judged (mapped (λ both. if_action both.0 both.1) (both (expr inside.now) (action after.now)))) }
+    ensures { IfOk result (λ r.
+        seen statement r
+        ≡ judged (mapped (λ both. if_action both.0 both.1) (both (expr inside.now)
+        (action after.now)))) }
 {
     let (test, action) = whole!(both(expr(alloc, inside)?, action(alloc, after)?));
     Ok(Reading::Whole(Stmt::IfAction { test, action }))
@@ -247,7 +258,8 @@ pub fn selected(alloc: Global, tokens: &[Token]) -> Result<Reading<Stmt>, NoMemo
 
 #[tactic(auto, using(dc_slices::proofs::Lists::judged_lemmas))]
 fn case_of(alloc: Global, tokens: &[Token]) -> Result<Reading<Stmt>, NoMemory>
-    ensures { IfOk result (λ r. seen statement r ≡ judged (mapped (λ ranges. case ranges) (list one_case tokens.now))) }
+    ensures { IfOk result (λ r.
+        seen statement r ≡ judged (mapped (λ ranges. case ranges) (list one_case tokens.now))) }
 {
     let ranges = whole!(list::<CasePart>(alloc, tokens)?);
     Ok(Reading::Whole(Stmt::Case(ranges)))

@@ -28,7 +28,9 @@ fn copied(alloc: Global, label: Option<&DcText>) -> Result<Option<DcText>, NoMem
 
 #[tactic(auto, using(dc_slices::proofs::Lists::judged_lemmas))]
 fn plain_do(alloc: Global, label: Option<&DcText>) -> Result<Reading<Stmt>, NoMemory>
-    ensures { IfOk result (λ r. seen statement r ≡ judged (plainly (do_line (option_map (λ text. text.now) label.entry) None))) }
+    ensures { IfOk result (λ r.
+        seen statement r
+        ≡ judged (plainly (do_line (option_map (λ text. text.now) label.entry) None))) }
 {
     let label = copied(alloc, label)?;
     let counted = None;
@@ -41,7 +43,10 @@ fn counted_do(
     label: Option<&DcText>,
     tokens: &[Token],
 ) -> Result<Reading<Stmt>, NoMemory>
-    ensures { IfOk result (λ r. seen statement r ≡ judged (mapped (λ counted. do_line (option_map (λ text. text.now) label.entry) (Some counted)) (ranging Stop.Comma tokens.now))) }
+    ensures { IfOk result (λ r.
+        seen statement r
+        ≡ judged (mapped (λ counted. do_line (option_map (λ text. text.now) label.entry)
+        (Some counted)) (ranging Stop.Comma tokens.now))) }
 {
     let label = copied(alloc, label)?;
     let counted = whole!(counted(alloc, tokens)?);
@@ -55,7 +60,10 @@ fn while_do(
     label: Option<&DcText>,
     tokens: &[Token],
 ) -> Result<Reading<Stmt>, NoMemory>
-    ensures { IfOk result (λ r. seen statement r ≡ judged (mapped (λ e. do_while (option_map (λ text. text.now) label.entry) e) (expr tokens.now))) }
+    ensures { IfOk result (λ r.
+        seen statement r
+        ≡ judged (mapped (λ e. do_while (option_map (λ text. text.now) label.entry) e)
+        (expr tokens.now))) }
 {
     let label = copied(alloc, label)?;
     let test = whole!(expr(alloc, tokens)?);
@@ -68,7 +76,10 @@ fn while_in(
     label: Option<&DcText>,
     tokens: &[Token],
 ) -> Result<Reading<Stmt>, NoMemory>
-    ensures { IfOk result (λ r. seen statement r ≡ judged (looped_named (Some Keyword.While) (option_map (λ text. text.now) label.entry) tokens.now)) }
+    ensures { IfOk result (λ r.
+        seen statement r
+        ≡ judged (looped_named (Some Keyword.While) (option_map
+        (λ text. text.now) label.entry) tokens.now)) }
 {
     match in_brackets(tokens) {
         Some(inside) => while_do(alloc, label, inside),
@@ -83,7 +94,10 @@ fn concurrent_parts(
     inside: &[Token],
     after: &[Token],
 ) -> Result<Reading<Stmt>, NoMemory>
-    ensures { IfOk result (λ r. seen statement r ≡ judged (concurrent_parts (option_map (λ text. text.now) label.entry) (inside.now, after.now))) }
+    ensures { IfOk result (λ r.
+        seen statement r
+        ≡ judged (concurrent_parts (option_map (λ text. text.now) label.entry)
+        (inside.now, after.now))) }
 {
     let label = copied(alloc, label)?;
     let ((spec, (indexes, mask)), locality) = whole!(both(
@@ -105,7 +119,10 @@ fn concurrent_in(
     label: Option<&DcText>,
     tokens: &[Token],
 ) -> Result<Reading<Stmt>, NoMemory>
-    ensures { IfOk result (λ r. seen statement r ≡ judged (looped_named (Some Keyword.Concurrent) (option_map (λ text. text.now) label.entry) tokens.now)) }
+    ensures { IfOk result (λ r.
+        seen statement r
+        ≡ judged (looped_named (Some Keyword.Concurrent) (option_map
+        (λ text. text.now) label.entry) tokens.now)) }
 {
     match bracket(tokens) {
         Some((inside, after)) => concurrent_parts(alloc, label, inside, after),
@@ -120,7 +137,10 @@ fn looped_named(
     label: Option<&DcText>,
     tokens: &[Token],
 ) -> Result<Reading<Stmt>, NoMemory>
-    ensures { IfOk result (λ r. seen statement r ≡ judged (looped_named (Some word) (option_map (λ text. text.now) label.entry) tokens.now)) }
+    ensures { IfOk result (λ r.
+        seen statement r
+        ≡ judged (looped_named (Some word) (option_map
+        (λ text. text.now) label.entry) tokens.now)) }
 {
     match word {
         Keyword::While => while_in(alloc, label, tokens),
@@ -136,7 +156,10 @@ fn looped_by(
     label: Option<&DcText>,
     tokens: &[Token],
 ) -> Result<Reading<Stmt>, NoMemory>
-    ensures { IfOk result (λ r. seen statement r ≡ judged (looped_named (keyword second.now) (option_map (λ text. text.now) label.entry) tokens.now)) }
+    ensures { IfOk result (λ r.
+        seen statement r
+        ≡ judged (looped_named (keyword second.now) (option_map
+        (λ text. text.now) label.entry) tokens.now)) }
 {
     match known(second.as_bytes()) {
         Some(word) => looped_named(alloc, word, label, tokens),
@@ -150,7 +173,9 @@ fn looped_word(
     label: Option<&DcText>,
     tokens: &[Token],
 ) -> Result<Reading<Stmt>, NoMemory>
-    ensures { IfOk result (λ r. seen statement r ≡ judged (looped_word (option_map (λ text. text.now) label.entry) tokens.now tokens.now)) }
+    ensures { IfOk result (λ r.
+        seen statement r
+        ≡ judged (looped_word (option_map (λ text. text.now) label.entry) tokens.now tokens.now)) }
 {
     match tokens {
         [Token::Word(_), Token::Mark(Mark::Equals), ..] => counted_do(alloc, label, tokens),
@@ -166,7 +191,8 @@ pub fn looped(
     label: Option<&DcText>,
     tokens: &[Token],
 ) -> Result<Reading<Stmt>, NoMemory>
-    ensures { IfOk result (λ r. seen statement r ≡ judged (looped (option_map (λ text. text.now) label.entry) tokens.now)) }
+    ensures { IfOk result (λ r.
+        seen statement r ≡ judged (looped (option_map (λ text. text.now) label.entry) tokens.now)) }
 {
     match tokens {
         [] => plain_do(alloc, label),

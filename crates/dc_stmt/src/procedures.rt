@@ -10,10 +10,10 @@ ghost use Rattle.dc_stmt.specs.Headings.{result_behind, result_in, result_of, fi
 use crate::declarations::declaration;
 use crate::headings::{PrefixPart, count_in_front, fits_shapes, procedure_kind};
 use dc_slices::{
-    Keyword, Reading, Stop, both, cuts, dummies, in_brackets, is, is_name, items, led, name, whole,
+    Keyword, Reading, Stop, both, cuts, dummies, in_brackets, is, items, led, name, whole,
 };
 use dc_text::{DcList, DcText, NoMemory};
-use dc_tree::{Stmt, Token};
+use dc_tree::{Stmt, Token, is_name};
 use std::alloc::Global;
 
 /// What stands behind the name of a procedure: whether there are brackets, the dummies in them, and
@@ -54,7 +54,8 @@ fn result_alone(
     slice: &[Token],
     more: &[&[Token]],
 ) -> Result<Reading<Option<DcText>>, NoMemory>
-    ensures { IfOk result (λ r. r ≡ judged (result_of (slice.now ∷ map (λ slice. slice.now) more.now))) }
+    ensures { IfOk result (λ r.
+        r ≡ judged (result_of (slice.now ∷ map (λ slice. slice.now) more.now))) }
 {
     match more {
         [] => result_in(alloc, slice),
@@ -88,7 +89,10 @@ fn behind_name(
     tokens: &[Token],
     slices: &[&[Token]],
 ) -> Result<Reading<Behind>, NoMemory>
-    ensures { IfOk result (λ r. r ≡ judged (both (arguments name tokens.now) (result_of (map (λ slice. slice.now) slices.now)))) }
+    ensures { IfOk result (λ r.
+        r
+        ≡ judged (both (arguments name tokens.now) (result_of (map
+        (λ slice. slice.now) slices.now)))) }
 {
     let (dummies, result) = whole!(both(dummies(alloc, tokens)?, result_of(alloc, slices)?));
     Ok(Reading::Whole((dummies, result)))
@@ -101,7 +105,8 @@ fn heading_from(
     tokens: &[Token],
     slices: &[&[Token]],
 ) -> Result<Reading<(DcText, Behind)>, NoMemory>
-    ensures { IfOk result (λ r. r ≡ judged (heading_from text.now tokens.now (map (λ slice. slice.now) slices.now))) }
+    ensures { IfOk result (λ r.
+        r ≡ judged (heading_from text.now tokens.now (map (λ slice. slice.now) slices.now))) }
 {
     let behind = whole!(behind_name(alloc, tokens, slices)?);
     let name = text.copy(alloc)?;
@@ -116,7 +121,10 @@ fn heading_named(
     tokens: &[Token],
     slices: &[&[Token]],
 ) -> Result<Reading<(DcText, Behind)>, NoMemory>
-    ensures { IfOk result (λ r. r ≡ judged (heading_first function (Token.Word text.now ∷ tokens.now) (map (λ slice. slice.now) slices.now))) }
+    ensures { IfOk result (λ r.
+        r
+        ≡ judged (heading_first function (Token.Word text.now ∷ tokens.now) (map
+        (λ slice. slice.now) slices.now))) }
 {
     if is_name(text.as_bytes()) && fits_parts(function, tokens, slices) {
         heading_from(alloc, text, tokens, slices)
@@ -132,7 +140,8 @@ fn heading_first(
     slice: &[Token],
     slices: &[&[Token]],
 ) -> Result<Reading<(DcText, Behind)>, NoMemory>
-    ensures { IfOk result (λ r. r ≡ judged (heading_first function slice.now (map (λ slice. slice.now) slices.now))) }
+    ensures { IfOk result (λ r.
+        r ≡ judged (heading_first function slice.now (map (λ slice. slice.now) slices.now))) }
 {
     match slice {
         [Token::Word(text), tokens @ ..] => heading_named(alloc, function, text, tokens, slices),
@@ -146,7 +155,8 @@ fn heading_of(
     function: bool,
     slices: &[&[Token]],
 ) -> Result<Reading<(DcText, Behind)>, NoMemory>
-    ensures { IfOk result (λ r. r ≡ judged (heading_of function (map (λ slice. slice.now) slices.now))) }
+    ensures { IfOk result (λ r.
+        r ≡ judged (heading_of function (map (λ slice. slice.now) slices.now))) }
 {
     match slices {
         [] => Ok(Reading::Nothing),
@@ -161,7 +171,11 @@ fn procedure(
     slices: &[&[Token]],
     function: bool,
 ) -> Result<Reading<Stmt>, NoMemory>
-    ensures { IfOk result (λ r. seen statement r ≡ judged (mapped (procedure_from function) (both (items one_prefix (map (λ slice. slice.now) prefixes.now)) (heading_of function (map (λ slice. slice.now) slices.now))))) }
+    ensures { IfOk result (λ r.
+        seen statement r
+        ≡ judged (mapped (procedure_from function) (both (items one_prefix (map
+        (λ slice. slice.now) prefixes.now)) (heading_of function (map
+        (λ slice. slice.now) slices.now))))) }
 {
     let prefix = items::<PrefixPart>(alloc, prefixes)?;
     let (prefix, (name, ((brackets, dummies), result))) = whole!(both(
@@ -185,7 +199,10 @@ fn procedure_by(
     slices: &[&[Token]],
     function: bool,
 ) -> Result<Reading<Stmt>, NoMemory>
-    ensures { IfOk result (λ r. seen statement r ≡ judged (procedure_by (map (λ slice. slice.now) prefixes.now) (map (λ slice. slice.now) slices.now) function)) }
+    ensures { IfOk result (λ r.
+        seen statement r
+        ≡ judged (procedure_by (map (λ slice. slice.now) prefixes.now) (map
+        (λ slice. slice.now) slices.now) function)) }
 {
     if fits_shapes(function, prefixes) {
         procedure(alloc, prefixes, slices, function)
@@ -201,7 +218,10 @@ fn procedure_at(
     slice: &[Token],
     slices: &[&[Token]],
 ) -> Result<Reading<Stmt>, NoMemory>
-    ensures { IfOk result (λ r. seen statement r ≡ judged (procedure_parts (map (λ slice. slice.now) prefixes.now) (slice.now ∷ (map (λ slice. slice.now) slices.now)))) }
+    ensures { IfOk result (λ r.
+        seen statement r
+        ≡ judged (procedure_parts (map (λ slice. slice.now) prefixes.now) (slice.now ∷ (map
+        (λ slice. slice.now) slices.now)))) }
 {
     match procedure_kind(slice) {
         Some(function) => procedure_by(alloc, prefixes, slices, function),
@@ -215,7 +235,10 @@ fn procedure_parts(
     prefixes: &[&[Token]],
     slices: &[&[Token]],
 ) -> Result<Reading<Stmt>, NoMemory>
-    ensures { IfOk result (λ r. seen statement r ≡ judged (procedure_parts (map (λ slice. slice.now) prefixes.now) (map (λ slice. slice.now) slices.now))) }
+    ensures { IfOk result (λ r.
+        seen statement r
+        ≡ judged (procedure_parts (map (λ slice. slice.now) prefixes.now) (map
+        (λ slice. slice.now) slices.now))) }
 {
     match slices {
         [] => Ok(Reading::Nothing),
@@ -224,7 +247,8 @@ fn procedure_parts(
 }
 
 fn heading_slices(alloc: Global, slices: &[&[Token]]) -> Result<Reading<Stmt>, NoMemory>
-    ensures { IfOk result (λ r. seen statement r ≡ judged (heading_slices (map (λ slice. slice.now) slices.now))) }
+    ensures { IfOk result (λ r.
+        seen statement r ≡ judged (heading_slices (map (λ slice. slice.now) slices.now))) }
 {
     let at = count_in_front(slices);
     let (front, back) = slices.split_at(at);

@@ -5,8 +5,6 @@ ghost use Rattle.dc_tree.specs.Statements.{statement, act};
 ghost use Rattle.dc_slices.specs.Finding.{mapped};
 ghost use Rattle.dc_slices.specs.Judging.{judged, seen};
 ghost use Rattle.dc_parts.specs.Deeds.{action};
-ghost use Rattle.dc_expr.specs.Answers.{breach};
-ghost use Rattle.dc_tree.specs.declared.fail.Fail.{Fail};
 ghost use Rattle.dc_stmt.specs.Reading.{labelled_do, labelled, named_by, recursive_by, statement_by, statement_reading};
 ghost use Rattle.dc_stmt.specs.Answers.{Answers};
 
@@ -15,9 +13,9 @@ use crate::loops::looped;
 use crate::procedures::{heading, typed};
 use crate::uses::used;
 use dc_parts::action;
-use dc_slices::{Keyword, Reading, is, is_name, known, whole};
+use dc_slices::{Keyword, Reading, is, known, whole};
 use dc_text::{DcText, NoMemory};
-use dc_tree::{Fail, Mark, Refusal, Stmt, Token};
+use dc_tree::{Fail, Mark, Stmt, Token, is_name};
 use std::alloc::Global;
 
 const NO_STATEMENT: u8 = 11;
@@ -26,7 +24,8 @@ const TOO_DEEP: u8 = 12;
 
 #[tactic(auto, using(dc_slices::proofs::Lists::judged_lemmas))]
 fn acted(alloc: Global, tokens: &[Token]) -> Result<Reading<Stmt>, NoMemory>
-    ensures { IfOk result (λ r. seen statement r ≡ judged (mapped (λ deed. act deed) (action tokens.now))) }
+    ensures { IfOk result (λ r.
+        seen statement r ≡ judged (mapped (λ deed. act deed) (action tokens.now))) }
 {
     let action = whole!(action(alloc, tokens)?);
     Ok(Reading::Whole(Stmt::Act(action)))
@@ -39,7 +38,8 @@ fn labelled_do(
     word: &Token,
     tokens: &[Token],
 ) -> Result<Reading<Stmt>, NoMemory>
-    ensures { IfOk result (λ r. seen statement r ≡ judged (labelled_do text.now word.now tokens.now)) }
+    ensures { IfOk result (λ r.
+        seen statement r ≡ judged (labelled_do text.now word.now tokens.now)) }
 {
     if is(Keyword::Do, word) {
         looped(alloc, Some(text), tokens)
@@ -85,7 +85,8 @@ fn recursive_by(
     rest: &[Token],
     tokens: &[Token],
 ) -> Result<Reading<Stmt>, NoMemory>
-    ensures { IfOk result (λ r. seen statement r ≡ judged (recursive_by text.now rest.now tokens.now)) }
+    ensures { IfOk result (λ r.
+        seen statement r ≡ judged (recursive_by text.now rest.now tokens.now)) }
 {
     match rest {
         [Token::Word(_), ..] => heading(alloc, tokens),
@@ -101,7 +102,8 @@ fn statement_by(
     rest: &[Token],
     tokens: &[Token],
 ) -> Result<Reading<Stmt>, NoMemory>
-    ensures { IfOk result (λ r. seen statement r ≡ judged (statement_by (Some word) text.now rest.now tokens.now)) }
+    ensures { IfOk result (λ r.
+        seen statement r ≡ judged (statement_by (Some word) text.now rest.now tokens.now)) }
 {
     match word {
         Keyword::Program => program(alloc, rest),
@@ -137,12 +139,6 @@ fn read(alloc: Global, tokens: &[Token]) -> Result<Reading<Stmt>, NoMemory>
     }
 }
 
-fn refused(rule: u8, line: u32) -> Fail
-    ensures { result ≡ Fail.Refused (breach rule line) }
-{
-    Fail::Refused(Refusal { rule, line })
-}
-
 /// The statement that the tokens spell, all of them, on a line. They are refused by rule 11 where no
 /// statement spells them, and by rule 12 where one does with an expression deeper than 256.
 #[tactic(auto, using(crate::proofs::Answering::answering))]
@@ -152,7 +148,7 @@ pub fn parse_stmt(alloc: Global, line: u32, tokens: &[Token]) -> Result<Stmt, Fa
     let reading = read(alloc, tokens)?;
     match reading {
         Reading::Whole(stmt) => Ok(stmt),
-        Reading::Deep => Err(refused(TOO_DEEP, line)),
-        Reading::Nothing => Err(refused(NO_STATEMENT, line)),
+        Reading::Deep => Err(Fail::refused(TOO_DEEP, line)),
+        Reading::Nothing => Err(Fail::refused(NO_STATEMENT, line)),
     }
 }

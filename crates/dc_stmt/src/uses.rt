@@ -7,9 +7,9 @@ ghost use Rattle.dc_slices.specs.Finding.{mapped, list, name};
 ghost use Rattle.dc_slices.specs.Judging.{judged, seen};
 ghost use Rattle.dc_stmt.specs.Reading.{used_only, used_from, used_names, used_intrinsic, used};
 
-use dc_slices::{Keyword, Reading, is, is_name, names, whole};
+use dc_slices::{Keyword, Reading, is, names, whole};
 use dc_text::{DcText, NoMemory};
-use dc_tree::{Mark, Stmt, Token, UseForm};
+use dc_tree::{Mark, Stmt, Token, UseForm, is_name};
 use std::alloc::Global;
 
 #[tactic(auto, using(dc_slices::proofs::Lists::judged_lemmas))]
@@ -19,7 +19,9 @@ fn use_of(
     text: &DcText,
     tokens: &[Token],
 ) -> Result<Reading<Stmt>, NoMemory>
-    ensures { IfOk result (λ r. seen statement r ≡ judged (mapped (λ names. use_line form text.now names) (list name tokens.now))) }
+    ensures { IfOk result (λ r.
+        seen statement r
+        ≡ judged (mapped (λ names. use_line form text.now names) (list name tokens.now))) }
 {
     let only = whole!(names(alloc, tokens)?);
     let module = text.copy(alloc)?;
