@@ -3,12 +3,12 @@ use Rattle.std.proofs.Common.{◌≡◌, ℕ, zero, suc, ◌+◌, Bool, true, fa
 use Rattle.std.proofs.lemmas.Bool.{false≢true}
 use Rattle.std.proofs.lemmas.List.Folds.{list_any-append}
 use Rattle.std.proofs.lemmas.Option.{none-some, same_Some}
-use Rattle.std.specs.Prelude.{ℤ, is_some, slice_get, slice_set, option_and_then}
+use Rattle.std.specs.Prelude.{ℤ, is_some, slice_get, slice_set}
 use Rattle.std.specs.List.{list_any}
 use Rattle.dc_int.specs.declared.access.ElementId.{ElementId}
 use Rattle.dc_int.specs.Entries.{Entry, Reads, Defines, Undefines, Contributes, store_after}
 use Rattle.dc_int.specs.Store.{Variable, Store, cell_of, put_at, with_cell, changed_at, bounds_of, same, same_element, cells_from, elements_from, elements_of}
-use Rattle.dc_int.proofs.Stores.{same-itself}
+use Rattle.dc_int.proofs.Stores.{cell_at, same-itself}
 
 -- ---- the same store
 
@@ -20,9 +20,6 @@ cells-same (state ∷ first) (other ∷ second) same =
     let here : state ≡ other = same_Some state other (same 0) in
     let rest = cells-same first second (λ p. same (suc p)) in
     λ i. here i ∷ rest i
-
-abbrev cell_at : Store → ℕ → ℕ → Option (Option ℤ)
-cell_at store v p = option_and_then (λ variable. slice_get variable.cells p) (slice_get store v)
 
 by_cells
     : (first second : Store) → length first ≡ length second → ((v : ℕ) → bounds_of first v ≡ bounds_of second v)

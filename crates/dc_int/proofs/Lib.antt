@@ -1,5 +1,6 @@
 pub mod Elements
 pub mod Examples
+pub mod Fits
 pub mod Powers
 pub mod Reductions
 pub mod Stores

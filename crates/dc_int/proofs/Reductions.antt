@@ -8,14 +8,14 @@ use Rattle.std.proofs.Math.Nat.{mod-eq_of_lt}
 use mir.Val.{bits}
 use mir.ValLaws.{of_z_fits}
 use Rattle.dc_int.proofs.Threes.{product-assoc, or-assoc}
-use Rattle.dc_int.proofs.Wraps.{in_range_fits, is_in_range-true, in_range-is, wrapped_in_range}
+use Rattle.dc_int.proofs.Wraps.{in_range_fits, is_of_kind-true, is_of_kind-holds, wrapped_in_range}
 use Rattle.std.proofs.lemmas.Nat.{and_comm, or_comm, xor_comm, and_mask, and_assoc, or_lt, xor_lt}
 use Rattle.std.specs.Int.Bits.{and_lt, xor_assoc}
 use borrow.Author.Differences.{same_in, product_is}
 use lib.IntN.{+ℤ_comm, +ℤ_assoc, *ℤ_comm, +ℤ_idl}
 use Rattle.dc_int.specs.declared.kind.Kind.{Kind}
 use Rattle.dc_int.specs.declared.operation.ReduceOp.{ReduceOp}
-use Rattle.dc_int.specs.Kinds.{width, InRange, is_in_range, is_truth_value, wrapped}
+use Rattle.dc_int.specs.Kinds.{width, InRange, is_of_kind, is_truth_value, wrapped}
 use Rattle.dc_int.specs.Operations.{pattern}
 use Rattle.dc_int.specs.Reductions.{truth, number_of_truth, same_truth, identity_of, is_logical, can_combine, combined}
 
@@ -82,7 +82,7 @@ of_truths P zero_holds one_holds (negsuc n) e = cc
 
 -- The identity changes no value.
 pub combined-identity : (op : ReduceOp) (kind : Kind) (a : ℤ) → can_combine op kind a ≡ true → combined op kind (identity_of op kind) a ≡ a
-combined-identity op kind a suits = by op (is_in_range-true kind a (and_parts (is_in_range kind a) (not (is_logical op) || is_truth_value a) suits).0) (and_parts (is_in_range kind a) (not (is_logical op) || is_truth_value a) suits).1
+combined-identity op kind a suits = by op (is_of_kind-true kind a (and_parts (is_of_kind kind a) (not (is_logical op) || is_truth_value a) suits).0) (and_parts (is_of_kind kind a) (not (is_logical op) || is_truth_value a) suits).1
   where
     by : (op : ReduceOp) → InRange kind a → (not (is_logical op) || is_truth_value a) ≡ true → combined op kind (identity_of op kind) a ≡ a
     by ReduceOp.Add within test = itself kind _ a within (+ℤ_idl a)
@@ -96,6 +96,29 @@ combined-identity op kind a suits = by op (is_in_range-true kind a (and_parts (i
     by ReduceOp.Iand within test = by_pattern kind _ a within (all_ones kind a within)
     by ReduceOp.Ior within test = by_pattern kind _ a within refl
     by ReduceOp.Ieor within test = by_pattern kind _ a within refl
+
+pub combined-identity_right : (op : ReduceOp) (kind : Kind) (a : ℤ) → can_combine op kind a ≡ true → combined op kind a (identity_of op kind) ≡ a
+combined-identity_right op kind a suits = combined-comm op kind a (identity_of op kind) ∙ combined-identity op kind a suits
+
+by_kind : (P : Kind → Type 0) → P Kind.K1 → P Kind.K2 → P Kind.K4 → P Kind.K8 → (kind : Kind) → P kind
+by_kind P p1 p2 p4 p8 Kind.K1 = p1
+by_kind P p1 p2 p4 p8 Kind.K2 = p2
+by_kind P p1 p2 p4 p8 Kind.K4 = p4
+by_kind P p1 p2 p4 p8 Kind.K8 = p8
+
+-- The identity can itself be combined.
+pub identity-inside : (op : ReduceOp) (kind : Kind) → can_combine op kind (identity_of op kind) ≡ true
+identity-inside ReduceOp.Add kind = by_kind (λ k. can_combine ReduceOp.Add k (pos 0) ≡ true) refl refl refl refl kind
+identity-inside ReduceOp.Mul kind = by_kind (λ k. can_combine ReduceOp.Mul k (pos 1) ≡ true) refl refl refl refl kind
+identity-inside ReduceOp.And kind = by_kind (λ k. can_combine ReduceOp.And k (pos 1) ≡ true) refl refl refl refl kind
+identity-inside ReduceOp.Or kind = by_kind (λ k. can_combine ReduceOp.Or k (pos 0) ≡ true) refl refl refl refl kind
+identity-inside ReduceOp.Eqv kind = by_kind (λ k. can_combine ReduceOp.Eqv k (pos 1) ≡ true) refl refl refl refl kind
+identity-inside ReduceOp.Neqv kind = by_kind (λ k. can_combine ReduceOp.Neqv k (pos 0) ≡ true) refl refl refl refl kind
+identity-inside ReduceOp.Max kind = by_kind (λ k. can_combine ReduceOp.Max k (identity_of ReduceOp.Max k) ≡ true) refl refl refl refl kind
+identity-inside ReduceOp.Min kind = by_kind (λ k. can_combine ReduceOp.Min k (identity_of ReduceOp.Min k) ≡ true) refl refl refl refl kind
+identity-inside ReduceOp.Iand kind = by_kind (λ k. can_combine ReduceOp.Iand k (negsuc 0) ≡ true) refl refl refl refl kind
+identity-inside ReduceOp.Ior kind = by_kind (λ k. can_combine ReduceOp.Ior k (pos 0) ≡ true) refl refl refl refl kind
+identity-inside ReduceOp.Ieor kind = by_kind (λ k. can_combine ReduceOp.Ieor k (pos 0) ≡ true) refl refl refl refl kind
 
 -- ---- three values
 
@@ -180,7 +203,7 @@ lesser-inside kind a b (a_low, a_high) (b_low, b_high) = (omega (arith, ints, cl
 
 -- a value that can be combined is of the kind
 can-in_range : (op : ReduceOp) (kind : Kind) (a : ℤ) → can_combine op kind a ≡ true → InRange kind a
-can-in_range op kind a suits = is_in_range-true kind a (and_parts (is_in_range kind a) (not (is_logical op) || is_truth_value a) suits).0
+can-in_range op kind a suits = is_of_kind-true kind a (and_parts (is_of_kind kind a) (not (is_logical op) || is_truth_value a) suits).0
 
 -- Of three values it makes no difference which two are combined first.
 pub combined-assoc
@@ -206,7 +229,7 @@ combined-assoc op kind a b c suits_a suits_b suits_c =
     by ReduceOp.Ior in_a in_b in_c = by_patterns kind bit_or or-assoc (λ x y. or_lt (bits (width kind)) x y) a b c in_a in_b in_c
     by ReduceOp.Ieor in_a in_b in_c = by_patterns kind bit_xor xor_assoc (λ x y. xor_lt (bits (width kind)) x y) a b c in_a in_b in_c
 
-truth-inside : (kind : Kind) (b : Bool) → (is_in_range kind (number_of_truth b) && is_truth_value (number_of_truth b)) ≡ true
+truth-inside : (kind : Kind) (b : Bool) → (is_of_kind kind (number_of_truth b) && is_truth_value (number_of_truth b)) ≡ true
 truth-inside Kind.K1 true = refl
 truth-inside Kind.K1 false = refl
 truth-inside Kind.K2 true = refl
@@ -216,8 +239,8 @@ truth-inside Kind.K4 false = refl
 truth-inside Kind.K8 true = refl
 truth-inside Kind.K8 false = refl
 
-wrapped-inside : (kind : Kind) (z : ℤ) → (is_in_range kind (wrapped kind z) && true) ≡ true
-wrapped-inside kind z = ap (λ b. b && true) (in_range-is kind (wrapped kind z) (wrapped_in_range kind z))
+wrapped-inside : (kind : Kind) (z : ℤ) → (is_of_kind kind (wrapped kind z) && true) ≡ true
+wrapped-inside kind z = ap (λ b. b && true) (is_of_kind-holds kind (wrapped kind z) (wrapped_in_range kind z))
 
 -- What comes of two values can be combined further.
 pub combined-inside : (op : ReduceOp) (kind : Kind) (a b : ℤ) → can_combine op kind (combined op kind a b) ≡ true

@@ -25,7 +25,8 @@ cell-set (cell ∷ cells) zero (suc q) state = refl
 cell-set (cell ∷ cells) (suc p) zero state = refl
 cell-set (cell ∷ cells) (suc p) (suc q) state = cell-set cells p q state
 
-abbrev cell_at : Store → ℕ → ℕ → Option (Option ℤ)
+-- the cell of an element by its variable and position
+abbrev pub cell_at : Store → ℕ → ℕ → Option (Option ℤ)
 cell_at store v p = option_and_then (λ variable. slice_get variable.cells p) (slice_get store v)
 
 cell-changed : (store : Store) (v w p q : ℕ) (state : Option ℤ)

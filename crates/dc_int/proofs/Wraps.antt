@@ -9,7 +9,7 @@ use Rattle.std.proofs.Math.Nat.{div-add-mod', mod-lt, suc-mul}
 use lib.Pow.{pow_pos}
 use mir.Val.{bits, hbits, sel}
 use Rattle.dc_int.specs.declared.kind.Kind.{Kind}
-use Rattle.dc_int.specs.Kinds.{width, bits_of, least_of, greatest_of, InRange, is_in_range, Congruent, wrapped, is_bit_count, kind_with}
+use Rattle.dc_int.specs.Kinds.{width, bits_of, least_of, greatest_of, InRange, is_of_kind, Congruent, wrapped, is_bit_count, kind_with}
 
 pub wrapped_in_range : (kind : Kind) (z : ℤ) → InRange kind (wrapped kind z)
 wrapped_in_range Kind.K1 z = let f : FitsSigned w8 (int_wrap w8 z) = SFits-int_wrap w8 z in (omega (arith, ints), omega (arith, ints))
@@ -165,15 +165,15 @@ high_exit = by_bits (λ b. HighExit (width (kind_with b)) (shifted_one b) (shift
     (high_exit_at w8 refl (lit≤ tt)) (high_exit_at w16 refl (lit≤ tt)) (high_exit_at w32 refl (lit≤ tt)) (high_exit_at w64 refl (lit≤ tt))
 
 -- the test of the range tells whether a number is in it
-pub is_in_range-true : (kind : Kind) (z : ℤ) → is_in_range kind z ≡ true → InRange kind z
-is_in_range-true kind z e =
+pub is_of_kind-true : (kind : Kind) (z : ℤ) → is_of_kind kind z ≡ true → InRange kind z
+is_of_kind-true kind z e =
     let both = and_parts (int_le (least_of kind) z) (int_le z (greatest_of kind)) e in
     let low = both.0 in
     let high = both.1 in
     (omega (arith, ints, low), omega (arith, ints, high))
 
-pub in_range-is : (kind : Kind) (z : ℤ) → InRange kind z → is_in_range kind z ≡ true
-in_range-is kind z (low, high) =
+pub is_of_kind-holds : (kind : Kind) (z : ℤ) → InRange kind z → is_of_kind kind z ≡ true
+is_of_kind-holds kind z (low, high) =
     let low_test : int_le (least_of kind) z ≡ true = search (arith, ints) in
     let high_test : int_le z (greatest_of kind) ≡ true = search (arith, ints) in
     ap₂ (λ a b. a && b) low_test high_test

@@ -1,5 +1,5 @@
 -- The kinds of INTEGER as numbers, and wrapping to a kind.
-use Rattle.std.specs.Prelude.{◌≡◌, ℕ, ◌-◌, ◌^◌, Bool, ◌&&◌, ◌||◌, ◌==◌, if◌then◌else◌, ℤ, pos, neg_ℤ, ◌+ℤ◌, ◌*ℤ◌, ◌≤ℤ◌, int_le}
+use Rattle.std.specs.Prelude.{◌≡◌, ℕ, ◌-◌, ◌^◌, Bool, not, ◌&&◌, ◌||◌, ◌==◌, if◌then◌else◌, ℤ, pos, neg_ℤ, ◌+ℤ◌, ◌*ℤ◌, ◌≤ℤ◌, int_le}
 use Rattle.std.specs.Int.{Width, w8, w16, w32, w64, int_wrap}
 use Rattle.dc_int.specs.declared.kind.Kind.{Kind}
 
@@ -30,12 +30,17 @@ greatest_of kind = pos (2 ^ (bits_of kind - 1) - 1)
 abbrev pub InRange : Kind → ℤ → Type 0
 InRange kind z = (least_of kind ≤ℤ z) × (z ≤ℤ greatest_of kind)
 
-abbrev pub is_in_range : Kind → ℤ → Bool
-is_in_range kind z = int_le (least_of kind) z && int_le z (greatest_of kind)
+abbrev pub is_of_kind : Kind → ℤ → Bool
+is_of_kind kind z = int_le (least_of kind) z && int_le z (greatest_of kind)
 
 -- A LOGICAL is 0 or 1. This project's own.
 abbrev pub is_truth_value : ℤ → Bool
 is_truth_value z = int_le (pos 0) z && int_le z (pos 1)
+
+-- A value of a variable of this kind, which is LOGICAL or not: a number of the kind, and 0 or 1 where it
+-- is LOGICAL. After clause 7.4, with the form of a LOGICAL above.
+abbrev pub value_fits : Kind → Bool → ℤ → Bool
+value_fits kind logical z = is_of_kind kind z && (not logical || is_truth_value z)
 
 -- The numbers differ by a multiple of m. This project's own.
 abbrev pub Congruent : ℕ → ℤ → ℤ → Type 0

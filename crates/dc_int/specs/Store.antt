@@ -1,11 +1,8 @@
 -- The store of the main program's variables: for each element a number, or undefined.
 -- After ISO/IEC 1539-1:2023, clauses 8.5.8, 9.5.3 and 19.6.
-use Rattle.std.specs.Prelude.{ℕ, zero, suc, ◌+◌, ◌*◌, ◌==◌, Bool, true, false, not, ◌&&◌, ◌||◌, nat_lt, List, [], ◌∷◌, ◌++◌, length, slice_get, slice_set, Option, Some, None, option_and_then, if◌then◌else◌, ℤ, pos, ◌+ℤ◌, int_le}
+use Rattle.std.specs.Prelude.{ℕ, zero, suc, ◌+◌, ◌*◌, Bool, true, false, ◌&&◌, ◌||◌, nat_lt, List, [], ◌∷◌, ◌++◌, slice_get, slice_set, Option, Some, None, option_and_then, if◌then◌else◌, ℤ, pos, ◌+ℤ◌, int_le}
 use Rattle.std.specs.Int.{int_gap}
-use Rattle.std.specs.List.{list_all}
 use Rattle.dc_int.specs.declared.access.ElementId.{ElementId}
-use Rattle.dc_int.specs.declared.variable.Shape.{Shape}
-use Rattle.dc_int.specs.Kinds.{is_in_range, is_truth_value}
 
 -- The least and the greatest subscript of each dimension. A scalar has no dimension. After clause
 -- 8.5.8.
@@ -63,6 +60,11 @@ abbrev pub elements_in : Bounds → ℕ
 elements_in [] = 1
 elements_in (dimension ∷ bounds) = extent dimension * elements_in bounds
 
+-- How many elements a variable has: those within its bounds, and none while it has no bounds.
+abbrev pub elements_within : Option Bounds → ℕ
+elements_within None = 0
+elements_within (Some bounds) = elements_in bounds
+
 -- How far a subscript is above the least one, where it is within the dimension.
 abbrev pub offset_in : ℤ × ℤ → ℤ → Option ℕ
 offset_in (low, high) subscript = if int_le low subscript && int_le subscript high then Some (int_gap low subscript) else None
@@ -94,14 +96,6 @@ same_element x y = same x.variable y.variable && same x.position y.position
 abbrev pub comes_before : ElementId → ElementId → Bool
 comes_before x y = nat_lt x.variable y.variable || (same x.variable y.variable && nat_lt x.position y.position)
 
-abbrev pub put_in_order : ElementId → List ElementId → List ElementId
-put_in_order x [] = x ∷ []
-put_in_order x (y ∷ elements) = if comes_before y x then y ∷ put_in_order x elements else x ∷ (y ∷ elements)
-
-abbrev pub in_store_order : List ElementId → List ElementId
-in_store_order [] = []
-in_store_order (x ∷ elements) = put_in_order x (in_store_order elements)
-
 -- The elements of so many cells of a variable, from a position on, and all elements of a store from
 -- a variable on, in store order.
 abbrev pub cells_from : ℕ → ℕ → List (Option ℤ) → List ElementId
@@ -114,23 +108,3 @@ elements_from number (variable ∷ store) = cells_from number 0 variable.cells +
 
 abbrev pub elements_of : Store → List ElementId
 elements_of store = elements_from 0 store
-
--- ---- shapes, this project's own
-
--- A value fits a shape where it is of its kind, and is 0 or 1 for a LOGICAL.
-abbrev pub fits_shape : Shape → ℤ → Bool
-fits_shape shape z = is_in_range shape.kind z && (not shape.logical || is_truth_value z)
-
-abbrev pub cell_fits : Shape → Option ℤ → Bool
-cell_fits shape None = true
-cell_fits shape (Some z) = fits_shape shape z
-
-abbrev pub variable_fits : Shape → Variable → Bool
-variable_fits shape variable = (length variable.cells == shape.elements) && list_all (cell_fits shape) variable.cells
-
--- The store has these shapes: a variable for each, with as many elements, each a number of its kind
--- or undefined.
-abbrev pub has_shapes : List Shape → Store → Bool
-has_shapes [] [] = true
-has_shapes (shape ∷ shapes) (variable ∷ store) = variable_fits shape variable && has_shapes shapes store
-has_shapes shapes store = false

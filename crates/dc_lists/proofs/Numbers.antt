@@ -11,9 +11,9 @@ use Rattle.std.specs.Str.{all_ascii_digits}
 use Rattle.std.specs.Str.Parse.{AllDigits, IsNumeral, digits_value}
 use Rattle.dc_int.specs.declared.fault.FaultKind.{FaultKind}
 use Rattle.dc_int.specs.declared.kind.Kind.{Kind}
-use Rattle.dc_int.specs.Kinds.{InRange, is_in_range, is_truth_value}
+use Rattle.dc_int.specs.Kinds.{InRange, is_of_kind, is_truth_value}
 use Rattle.dc_int.specs.Sorts.{Sort, whole, logical}
-use Rattle.dc_int.proofs.Wraps.{is_in_range-true}
+use Rattle.dc_int.proofs.Wraps.{is_of_kind-true}
 use Rattle.dc_lists.specs.Input.{is_part, unsigned_in, negative, signed_in, of_kind}
 use Rattle.dc_lists.specs.Output.{is_of_sort, written}
 use Rattle.dc_lists.proofs.Texts.{IsValue}
@@ -90,9 +90,9 @@ number_writes : (kind : Kind) (z : ℤ) → InRange kind z → Writes z (signed_
 number_writes kind (pos n) within = decimal_writes n (small_above kind n within)
 number_writes kind (negsuc n) within = minus_writes n (small_below kind n within)
 
-number_is_value : (kind : Kind) (z : ℤ) → is_in_range kind z ≡ true → IsValue (whole kind) z (signed_decimal z)
+number_is_value : (kind : Kind) (z : ℤ) → is_of_kind kind z ≡ true → IsValue (whole kind) z (signed_decimal z)
 number_is_value kind z within =
-    let writes = number_writes kind z (is_in_range-true kind z within) in
+    let writes = number_writes kind z (is_of_kind-true kind z within) in
     let in_range : of_kind kind (Some z) ≡ Ok z = λ i. if within i then Ok z else Err FaultKind.BadInput in
     record { some = writes.some; parts = writes.parts; value = ap (of_kind kind) writes.number ∙ in_range }
 

@@ -6,7 +6,7 @@ use Rattle.std.specs.Str.{all_ascii_digits}
 use Rattle.std.specs.Str.Parse.{digits_value}
 use Rattle.dc_int.specs.declared.fault.FaultKind.{FaultKind}
 use Rattle.dc_int.specs.declared.kind.Kind.{Kind}
-use Rattle.dc_int.specs.Kinds.{is_in_range}
+use Rattle.dc_int.specs.Kinds.{is_of_kind}
 use Rattle.dc_int.specs.Sorts.{Sort, whole, logical}
 
 -- What was taken, and the bytes that are then left; or the fault.
@@ -89,7 +89,7 @@ signed_in (byte ∷ text) = signed_from byte text
 -- The number, where there is one and it is in the range of the kind.
 abbrev pub of_kind : Kind → Option ℤ → Result ℤ FaultKind
 of_kind kind None = Err FaultKind.BadInput
-of_kind kind (Some z) = if is_in_range kind z then Ok z else Err FaultKind.BadInput
+of_kind kind (Some z) = if is_of_kind kind z then Ok z else Err FaultKind.BadInput
 
 -- ---- truths
 

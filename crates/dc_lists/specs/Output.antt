@@ -2,13 +2,13 @@
 -- leaves the widths and the blanks to the processor: the bytes are this project's own.
 use Rattle.std.specs.Prelude.{ℕ, Bool, List, [], ◌∷◌, ◌++◌, if◌then◌else◌, ℤ}
 use Rattle.std.specs.Fmt.{signed_decimal}
-use Rattle.dc_int.specs.Kinds.{is_in_range, is_truth_value}
+use Rattle.dc_int.specs.Kinds.{is_of_kind, is_truth_value}
 use Rattle.dc_int.specs.Reductions.{truth}
 use Rattle.dc_int.specs.Sorts.{Sort, whole, logical}
 
 -- A value of this sort: a number in the range of its kind, or 0 or 1 for a LOGICAL.
 abbrev pub is_of_sort : Sort → ℤ → Bool
-is_of_sort (whole kind) z = is_in_range kind z
+is_of_sort (whole kind) z = is_of_kind kind z
 is_of_sort logical z = is_truth_value z
 
 -- A number in decimal digits, with `-` in front where it is negative; a LOGICAL as `T` or `F`.

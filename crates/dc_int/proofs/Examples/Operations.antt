@@ -1,14 +1,12 @@
 -- Operations on numbers, each computed by the definitions.
-use Rattle.std.proofs.Common.{◌≡◌, refl}
-use Rattle.std.specs.Prelude.{pos, neg_ℤ, Ok, Err}
+use Rattle.std.proofs.Common.{◌≡◌, ℕ, ◌+◌, List, [], ◌∷◌, refl}
+use Rattle.std.specs.Prelude.{ℤ, pos, neg_ℤ, Ok, Err}
 use Rattle.std.specs.Int.{int_wrap}
 use Rattle.dc_int.specs.declared.kind.Kind.{Kind}
 use Rattle.dc_int.specs.declared.operation.Op.{Op}
 use Rattle.dc_int.specs.declared.operation.OpFault.{OpFault}
-use Rattle.dc_int.specs.declared.operation.ReduceOp.{ReduceOp}
-use Rattle.dc_int.specs.Kinds.{least_of, greatest_of}
-use Rattle.dc_int.specs.Operations.{applied}
-use Rattle.dc_int.specs.Reductions.{identity_of, combined}
+use Rattle.dc_int.specs.Kinds.{bits_of, least_of, greatest_of}
+use Rattle.dc_int.specs.Operations.{Outcome, applied}
 
 -- -2**2 is the negative of a power
 pub two_squared : applied Op.Pow Kind.K4 (pos 2) (pos 2) ≡ Ok (pos 4)
@@ -43,9 +41,6 @@ modulo_of_two_negatives = refl
 pub modulo_of_a_multiple : applied Op.Modulo Kind.K4 (pos 6) (neg_ℤ (pos 3)) ≡ Ok (pos 0)
 unfolding int_wrap
 modulo_of_a_multiple = refl
-
-pub zero_divides_nothing : applied Op.Modulo Kind.K4 (pos 7) (pos 0) ≡ Err OpFault.Zero
-zero_divides_nothing = refl
 
 -- 2**(-3), 0**0, 0**(-1), (-1)**(-3) and a power that wraps
 pub two_to_minus_three : applied Op.Pow Kind.K4 (pos 2) (neg_ℤ (pos 3)) ≡ Ok (pos 0)
@@ -186,11 +181,6 @@ pub ones_of_minus_two : applied Op.Popcnt Kind.K1 (neg_ℤ (pos 2)) (pos 0) ≡ 
 unfolding int_wrap
 ones_of_minus_two = refl
 
--- sums of kind 1 wrap: 100 and twice 50
-pub sum_wraps : combined ReduceOp.Add Kind.K1 (combined ReduceOp.Add Kind.K1 (pos 100) (pos 50)) (pos 50) ≡ neg_ℤ (pos 56)
-unfolding int_wrap
-sum_wraps = refl
-
 pub greatest_plus_one : applied Op.Add Kind.K8 (greatest_of Kind.K8) (pos 1) ≡ Ok (least_of Kind.K8)
 unfolding int_wrap
 greatest_plus_one = refl
@@ -199,16 +189,74 @@ pub product_wraps : applied Op.Mul Kind.K8 (greatest_of Kind.K8) (greatest_of Ki
 unfolding int_wrap
 product_wraps = refl
 
-pub reduced_max : combined ReduceOp.Max Kind.K1 (identity_of ReduceOp.Max Kind.K1) (neg_ℤ (pos 128)) ≡ neg_ℤ (pos 128)
+-- ---- divisors of zero
+
+abbrev by_zero : Op → Outcome
+by_zero op = applied op Kind.K2 (pos 7) (pos 0)
+
+pub no_quotient_by_zero : by_zero Op.Div ≡ Err OpFault.Zero
+no_quotient_by_zero = refl
+
+pub no_remainder_by_zero : by_zero Op.Mod ≡ Err OpFault.Zero
+no_remainder_by_zero = refl
+
+pub no_modulo_by_zero : by_zero Op.Modulo ≡ Err OpFault.Zero
+no_modulo_by_zero = refl
+
+-- ---- shifts of -1 at the limit, with B bits: ISHFT by B, -B, B + 1 and -B - 1
+
+abbrev ishft_at_limit : Kind → List Outcome
+ishft_at_limit kind =
+    applied Op.Ishft kind (neg_ℤ (pos 1)) (pos (bits_of kind)) ∷ applied Op.Ishft kind (neg_ℤ (pos 1)) (neg_ℤ (pos (bits_of kind)))
+    ∷ applied Op.Ishft kind (neg_ℤ (pos 1)) (pos (bits_of kind + 1)) ∷ applied Op.Ishft kind (neg_ℤ (pos 1)) (neg_ℤ (pos (bits_of kind + 1)))
+    ∷ []
+
+abbrev zero_then_refused : List Outcome
+zero_then_refused = Ok (pos 0) ∷ Ok (pos 0) ∷ Err OpFault.Shift ∷ Err OpFault.Shift ∷ []
+
+pub ishft_of_kind_1 : ishft_at_limit Kind.K1 ≡ zero_then_refused
 unfolding int_wrap
-reduced_max = refl
+ishft_of_kind_1 = refl
 
-pub reduced_iand : combined ReduceOp.Iand Kind.K8 (identity_of ReduceOp.Iand Kind.K8) (neg_ℤ (pos 7)) ≡ neg_ℤ (pos 7)
+pub ishft_of_kind_2 : ishft_at_limit Kind.K2 ≡ zero_then_refused
 unfolding int_wrap
-reduced_iand = refl
+ishft_of_kind_2 = refl
 
-pub reduced_eqv : combined ReduceOp.Eqv Kind.K4 (pos 0) (pos 0) ≡ pos 1
-reduced_eqv = refl
+pub ishft_of_kind_4 : ishft_at_limit Kind.K4 ≡ zero_then_refused
+unfolding int_wrap
+ishft_of_kind_4 = refl
 
-pub reduced_neqv : combined ReduceOp.Neqv Kind.K4 (pos 1) (pos 0) ≡ pos 1
-reduced_neqv = refl
+pub ishft_of_kind_8 : ishft_at_limit Kind.K8 ≡ zero_then_refused
+unfolding int_wrap
+ishft_of_kind_8 = refl
+
+-- ---- places and positions of kind 2, which has 16 bits
+
+-- an operation on -2 by the greatest number that may be, the next one, and -1
+abbrev at_limit : Op → ℕ → List Outcome
+at_limit op greatest =
+    applied op Kind.K2 (neg_ℤ (pos 2)) (pos greatest) ∷ applied op Kind.K2 (neg_ℤ (pos 2)) (pos (greatest + 1)) ∷ applied op Kind.K2 (neg_ℤ (pos 2)) (neg_ℤ (pos 1))
+    ∷ []
+
+abbrev then_refused : ℤ → List Outcome
+then_refused z = Ok z ∷ Err OpFault.Shift ∷ Err OpFault.Shift ∷ []
+
+pub shiftl_at_limit : at_limit Op.Shiftl 16 ≡ then_refused (pos 0)
+unfolding int_wrap
+shiftl_at_limit = refl
+
+pub shiftr_at_limit : at_limit Op.Shiftr 16 ≡ then_refused (pos 0)
+unfolding int_wrap
+shiftr_at_limit = refl
+
+pub shifta_at_limit : at_limit Op.Shifta 16 ≡ then_refused (neg_ℤ (pos 1))
+unfolding int_wrap
+shifta_at_limit = refl
+
+pub ibset_at_limit : at_limit Op.Ibset 15 ≡ then_refused (neg_ℤ (pos 2))
+unfolding int_wrap
+ibset_at_limit = refl
+
+pub ibclr_at_limit : at_limit Op.Ibclr 15 ≡ then_refused (pos 32766)
+unfolding int_wrap
+ibclr_at_limit = refl

@@ -1,10 +1,8 @@
 -- A small store, and what the definitions say of it.
-use Rattle.std.proofs.Common.{◌≡◌, ℕ, List, [], ◌∷◌, Bool, true, false, Some, None, refl}
+use Rattle.std.proofs.Common.{◌≡◌, ℕ, [], ◌∷◌, false, Some, None, refl}
 use Rattle.std.specs.Prelude.{pos, negsuc}
-use Rattle.dc_int.specs.declared.kind.Kind.{Kind}
 use Rattle.dc_int.specs.declared.access.ElementId.{ElementId}
-use Rattle.dc_int.specs.declared.variable.Shape.{Shape}
-use Rattle.dc_int.specs.Store.{Bounds, Store, cell_of, value_at, put_at, bounds_of, elements_in, position_in, same_element, in_store_order, elements_of, has_shapes}
+use Rattle.dc_int.specs.Store.{Bounds, Store, cell_of, value_at, put_at, bounds_of, elements_in, position_in, same_element, elements_of}
 
 abbrev pub element : ℕ → ℕ → ElementId
 element variable position = record { variable = variable; position = position }
@@ -96,29 +94,9 @@ none_in_an_empty_dimension = refl
 pub no_place_in_an_empty_dimension : position_in ((pos 5, pos 2) ∷ []) (pos 3 ∷ []) ≡ None
 no_place_in_an_empty_dimension = refl
 
-pub in_order : in_store_order (element 1 2 ∷ element 2 0 ∷ element 0 4 ∷ element 1 0 ∷ []) ≡ element 0 4 ∷ element 1 0 ∷ element 1 2 ∷ element 2 0 ∷ []
-in_order = refl
-
 pub all_elements : elements_of small ≡ element 0 0 ∷ element 1 0 ∷ element 1 1 ∷ element 1 2 ∷ []
 all_elements = refl
 
 -- a place beyond a numeral is told from another one by the cases of `same`
 pub told_apart : (m n : ℕ) → same_element (element 0 m) (element 1 n) ≡ false
 told_apart m n = refl
-
-abbrev shapes : Bool → List Shape
-shapes logical =
-    record { kind = Kind.K4; logical = logical; elements = 1 }
-    ∷ record { kind = Kind.K1; logical = false; elements = 3 }
-    ∷ record { kind = Kind.K8; logical = false; elements = 0 }
-    ∷ []
-
-pub small_has_shapes : has_shapes (shapes false) small ≡ true
-small_has_shapes = refl
-
-pub seven_is_no_truth : has_shapes (shapes true) small ≡ false
-seven_is_no_truth = refl
-
-pub out_of_the_kind : has_shapes (shapes false) (put_at small (element 1 0) (Some (pos 128))) ≡ false
-unfolding put_at
-out_of_the_kind = refl
