@@ -11,7 +11,7 @@ use Rattle.dc_int.specs.Entries.{Entry, reads, touches, exposes, store_after}
 use Rattle.dc_int.specs.Store.{Store, cell_of, value_at, same_element, number_in}
 use Rattle.dc_code.specs.Breaks.{breaks, accesses}
 use Rattle.dc_code.specs.Computation.{SameShape}
-use Rattle.dc_code.specs.Laws.{SameStart, IsFramed, TouchesOwn, EndWell, alone_runs, may_touch}
+use Rattle.dc_code.specs.Laws.{SameStart, IsFramed, KeepsLocality, KeepLocality, EndWell, alone_runs, may_touch}
 use Rattle.dc_code.specs.Loops.{Parts, Ordered, alone, order, joined}
 use Rattle.dc_code.specs.Pairs.{clashes}
 use Rattle.dc_code.proofs.Orders.{behind-good}
@@ -57,7 +57,7 @@ no-value first second x shape none =
 
 -- ---- an order
 
-module _ (parts : Parts) (opening : Store) (framed : IsFramed parts) (own : TouchesOwn parts opening) where
+module _ (parts : Parts) (opening : Store) (framed : IsFramed parts) where
   abbrev locality : ℕ → Locality
   locality = parts.form.known.locality
 
@@ -80,8 +80,10 @@ module _ (parts : Parts) (opening : Store) (framed : IsFramed parts) (own : Touc
       (x : ElementId) → is_some (cell_of opening x) ≡ true
       → list_any (breaks (locality x.variable) x run) (alone_runs parts opening iterations) ≡ false
 
-  start-later : (store : Store) (at : List ℤ) → SameStart parts.form opening store → SameStart parts.form opening (store_after (entries_of at) store)
-  start-later store at start = record {
+  start-later
+      : (store : Store) (at : List ℤ) → KeepsLocality parts opening at → SameStart parts.form opening store
+      → SameStart parts.form opening (store_after (entries_of at) store)
+  start-later store at keeps start = record {
     shape = shape-then opening store (store_after (entries_of at) store) start.shape (shape-after (entries_of at) store);
     copied = λ x among. start.copied x among ∙ value-untouched (entries_of at) store x (kept x among (touches x (entries_of at)) refl);
   }
@@ -89,44 +91,46 @@ module _ (parts : Parts) (opening : Store) (framed : IsFramed parts) (own : Touc
       kept
           : (x : ElementId) → list_any (same_element x) parts.form.copied ≡ true → (b : Bool) → touches x (entries_of at) ≡ b
           → touches x (entries_of at) ≡ false
-      kept x among true touched = absurd (false≢true (sym (own.apart at x touched) ∙ among))
+      kept x among true touched = absurd (false≢true (sym (keeps.apart x touched) ∙ among))
       kept x among false apart = apart
 
   sees-later
-      : (store : Store) (at other : List ℤ) → SameStart parts.form opening store
+      : (store : Store) (at other : List ℤ) → KeepsLocality parts opening at → SameStart parts.form opening store
       → ((x : ElementId) → is_some (cell_of opening x) ≡ true → breaks (locality x.variable) x (entries_of at) (entries_of other) ≡ false)
       → Sees store other → Sees (store_after (entries_of at) store) other
-  sees-later store at other start apart sees x exposed = by (is_some (cell_of opening x)) (touches x (entries_of at)) refl refl
+  sees-later store at other keeps start apart sees x exposed = by (is_some (cell_of opening x)) (touches x (entries_of at)) refl refl
     where
       by
           : (b c : Bool) → is_some (cell_of opening x) ≡ b → touches x (entries_of at) ≡ c
           → value_at opening x ≡ value_at (store_after (entries_of at) store) x
-      by false c none touch = no-value opening (store_after (entries_of at) store) x (start-later store at start).shape none
+      by false c none touch = no-value opening (store_after (entries_of at) store) x (start-later store at keeps start).shape none
       by true true some touched =
           absurd (false≢true (sym (apart x some)
-          ∙ broken-by_touch (locality x.variable) x (entries_of at) (entries_of other) (own.allowed at x touched) touched exposed))
+          ∙ broken-by_touch (locality x.variable) x (entries_of at) (entries_of other) (keeps.allowed x touched) touched exposed))
       by true false some untouched = sees x exposed ∙ value-untouched (entries_of at) store x untouched
 
   all-see-later
-      : (store : Store) (at : List ℤ) (rest : List (List ℤ)) → SameStart parts.form opening store → NoneBreaks (entries_of at) rest
-      → All (Sees store) rest
+      : (store : Store) (at : List ℤ) (rest : List (List ℤ)) → KeepsLocality parts opening at → SameStart parts.form opening store
+      → NoneBreaks (entries_of at) rest → All (Sees store) rest
       → All (Sees (store_after (entries_of at) store)) rest
-  all-see-later store at [] start apart sees = All-nil (Sees (store_after (entries_of at) store))
-  all-see-later store at (other ∷ rest) start apart sees =
+  all-see-later store at [] keeps start apart sees = All-nil (Sees (store_after (entries_of at) store))
+  all-see-later store at (other ∷ rest) keeps start apart sees =
       let each = λ (x : ElementId) (some : is_some (cell_of opening x) ≡ true). or-neither
       (breaks (locality x.variable) x (entries_of at) (entries_of other))
       (list_any (breaks (locality x.variable) x (entries_of at)) (alone_runs parts opening rest)) (apart x some) in
       All-cons (Sees (store_after (entries_of at) store)) other rest
-      (sees-later store at other start (λ x some. (each x some).0) (All-head (Sees store) other rest sees))
-      (all-see-later store at rest start (λ x some. (each x some).1) (All-tail (Sees store) other rest sees))
+      (sees-later store at other keeps start (λ x some. (each x some).0) (All-head (Sees store) other rest sees))
+      (all-see-later store at rest keeps start (λ x some. (each x some).1) (All-tail (Sees store) other rest sees))
 
   -- Over a store on which they begin alike and see the same, iterations do what each does alone.
   order-over
-      : (store : Store) (iterations : List (List ℤ)) → EndWell parts opening iterations → NoClash iterations → SameStart parts.form opening store
+      : (store : Store) (iterations : List (List ℤ)) → KeepLocality parts opening iterations → EndWell parts opening iterations → NoClash iterations
+      → SameStart parts.form opening store
       → All (Sees store) iterations
       → order parts [] store iterations ≡ done_alone parts opening store iterations
-  order-over store [] well apart start sees = refl
-  order-over store (at ∷ rest) well apart start sees =
+  order-over store [] keep well apart start sees = refl
+  order-over store (at ∷ rest) keep well apart start sees =
+      let keeps = All-head (KeepsLocality parts opening) at rest keep in
       let here = framed.alike opening store at start (All-head (Sees store) at rest sees) in
       let good : (alone parts store at).trouble ≡ None = here.trouble ∙ All-head (λ a. (alone parts opening a).trouble ≡ None) at rest well in
       let none : (alone parts store at).orders ≡ [] = framed.orders store at in
@@ -136,9 +140,9 @@ module _ (parts : Parts) (opening : Store) (framed : IsFramed parts) (own : Touc
       (list_any (breaks (locality x.variable) x (entries_of at)) (alone_runs parts opening rest))
       (clashes (locality x.variable) x (alone_runs parts opening rest)) (apart x some) in
       let later =
-      order-over (store_after (entries_of at) store) rest (All-tail (λ a. (alone parts opening a).trouble ≡ None) at rest well)
-      (λ x some. (each x some).1) (start-later store at start)
-      (all-see-later store at rest start (λ x some. (each x some).0) (All-tail (Sees store) at rest sees)) in
+      order-over (store_after (entries_of at) store) rest (All-tail (KeepsLocality parts opening) at rest keep) (All-tail (λ a. (alone parts opening a).trouble ≡ None) at rest well)
+      (λ x some. (each x some).1) (start-later store at keeps start)
+      (all-see-later store at rest keeps start (λ x some. (each x some).0) (All-tail (Sees store) at rest sees)) in
       behind-good (alone parts store at) (λ left behind. order parts left behind rest) good
       ∙ (λ i. joined (alone parts store at) (order parts (none i) (after i) rest))
       ∙ ap (joined (alone parts store at)) later
@@ -157,8 +161,8 @@ module _ (parts : Parts) (opening : Store) (framed : IsFramed parts) (own : Touc
   -- Where each iteration ends well alone and none of the store's elements clashes, an order is made of
   -- what each does alone.
   pub order-alone
-      : (iterations : List (List ℤ)) → EndWell parts opening iterations → NoClash iterations
+      : (iterations : List (List ℤ)) → KeepLocality parts opening iterations → EndWell parts opening iterations → NoClash iterations
       → order parts [] opening iterations ≡ done_alone parts opening opening iterations
-  order-alone iterations well apart =
-      order-over opening iterations well apart
+  order-alone iterations keep well apart =
+      order-over opening iterations keep well apart
       (record { shape = record { elements = λ x. refl; bounds = λ variable. refl }; copied = λ x among. refl }) (all-see iterations)

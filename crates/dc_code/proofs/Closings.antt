@@ -9,15 +9,15 @@ use Rattle.dc_int.specs.declared.access.ElementId.{ElementId}
 use Rattle.dc_int.specs.declared.variable.Locality.{Locality}
 use Rattle.dc_int.specs.Entries.{Entry, Reads, Defines, Undefines, Contributes, touches, state_after}
 use Rattle.dc_int.specs.Store.{Store, cell_of, same_element, elements_of}
+use Rattle.dc_int.proofs.Fits.{bounds-after}
 use Rattle.dc_int.proofs.Elements.{store-same, length-after, elements-complete}
 use Rattle.dc_int.proofs.Stores.{cell-after, same_element-is}
 use Rattle.dc_code.specs.Closing.{Localities, is_touched_twice, is_unspecified, forgotten, reduced, reductions, is_contribution_to, passed_to, passed_on, changes, closing}
-use Rattle.dc_code.specs.Laws.{IsOwn, HoldsOwn, may_touch}
+use Rattle.dc_code.specs.Laws.{IsCombinable, may_touch}
 use Rattle.dc_code.specs.Pairs.{clashes}
 use Rattle.dc_code.proofs.Alone.{left_by}
 use Rattle.dc_code.proofs.Permuted.{twice-permuted, twice-touched, twice-clashes, state_left, left-permuted, cell-left, elements-left, length-left, bounds-left}
-use Rattle.dc_code.proofs.Reduced.{reduced-permuted}
-use Rattle.dc_code.proofs.Stores.{bounds-after}
+use Rattle.dc_code.proofs.Reduced.{HoldsCombinable, reduced-permuted}
 
 -- ---- what the changes leave of an element
 
@@ -134,7 +134,7 @@ module _ (known : Localities) (line : ℕ) (store : Store) (runs others : List (
     (unbroken : (x : ElementId) → is_some (cell_of store x) ≡ true → clashes (known.locality x.variable) x runs ≡ false)
     (allowed : (x : ElementId) → may_touch (known.locality x.variable) ≡ false → list_any (touches x) runs ≡ false)
     (allowed_too : (x : ElementId) → may_touch (known.locality x.variable) ≡ false → list_any (touches x) others ≡ false)
-    (own : All (All (IsOwn known)) runs) (holds : HoldsOwn known store) where
+    (own : All (All (IsCombinable known)) runs) (holds : HoldsCombinable known store) where
   reductions-same : reductions known line runs (left_by runs store) ≡ reductions known line others (left_by others store)
   reductions-same =
       let each = reduced-permuted known line runs others store permuted own holds allowed allowed_too in

@@ -9,9 +9,10 @@ use Rattle.dc_int.specs.declared.variable.Locality.{Locality}
 use Rattle.dc_int.specs.Entries.{Entry, Reads, Defines, Undefines, Contributes}
 use Rattle.dc_int.specs.Store.{Store, cell_of, value_at, put_at}
 use Rattle.dc_code.specs.Breaks.{breaks, first_break, named_beside}
-use Rattle.dc_code.specs.Combinations.{values_of, combinations}
+use Rattle.dc_code.specs.Combinations.{Span, values_of, combinations}
 use Rattle.dc_code.specs.Pairs.{clashes, first_clash, pair}
 use Rattle.dc_code.specs.Closing.{Localities, changes, closing}
+use Rattle.dc_code.specs.Loops.{are_too_many}
 
 -- ---- combinations
 
@@ -24,6 +25,20 @@ downward = refl
 -- with the last limit below the first there is no value
 no_value : values_of (record { first = pos 5; last = pos 1; step = pos 1 }) ≡ []
 no_value = refl
+
+-- nor with a step that passes it at once
+no_value_by_step : values_of (record { first = pos 1; last = pos 0; step = pos 3 }) ≡ []
+no_value_by_step = refl
+
+-- the most combinations that there may be, and one more
+abbrev counted : ℕ → Span
+counted last = record { first = pos 1; last = pos last; step = pos 1 }
+
+most : are_too_many (counted 2048 ∷ counted 2048 ∷ []) ≡ false
+most = refl
+
+one_more : are_too_many (counted 4194305 ∷ []) ≡ true
+one_more = refl
 
 first_varies_fastest
     : combinations (record { first = pos 1; last = pos 2; step = pos 1 } ∷ record { first = pos 8; last = pos 9; step = pos 1 } ∷ [])
@@ -135,3 +150,16 @@ summed = refl
 -- without an iteration nothing is defined
 nothing_summed : changes (all_of_kind_4 sums) 3 [] small ≡ []
 nothing_summed = refl
+
+-- ---- reductions of a loop around: what passes is in store order, and of one element in the order of the runs
+
+abbrev passing : Localities
+passing = record { locality = sums; kind = λ variable. Kind.K4; passed = λ variable. true }
+
+passed_in_store_order
+    : changes passing 3
+    ((Contributes t ReduceOp.Add (pos 1) ∷ Contributes (a 2) ReduceOp.Add (pos 2) ∷ []) ∷ (Contributes t ReduceOp.Add (pos 3) ∷ Contributes (a 0) ReduceOp.Add (pos 4) ∷ []) ∷ [])
+    small
+    ≡ Contributes (a 0) ReduceOp.Add (pos 4)
+    ∷ Contributes (a 2) ReduceOp.Add (pos 2) ∷ Contributes t ReduceOp.Add (pos 1) ∷ Contributes t ReduceOp.Add (pos 3) ∷ []
+passed_in_store_order = refl

@@ -1,7 +1,7 @@
 -- A loop that goes on ends alike in every order of its iterations.
 use Rattle.std.proofs.Common.{◌≡◌, ℕ, Bool, true, false, ◌||◌, List, [], ◌∷◌, map, All, Some, None, refl, sym, ap, ◌∙◌}
 use Rattle.std.proofs.lemmas.Bool.{false≢true}
-use Rattle.std.proofs.lemmas.List.Elements.{All-nil, All-cons}
+use Rattle.std.proofs.lemmas.List.Elements.{All-nil, All-cons, All-head, All-tail}
 use Rattle.std.proofs.lemmas.List.Sorted.{All-permutation, IsPermutation-map}
 use Rattle.std.proofs.lemmas.Option.{none-some}
 use Rattle.std.specs.Prelude.{ℤ, is_some, find, if◌then◌else◌}
@@ -13,7 +13,7 @@ use Rattle.dc_int.specs.Entries.{touches}
 use Rattle.dc_int.specs.Store.{Store, cell_of, same_element, elements_of}
 use Rattle.dc_int.proofs.Elements.{elements-complete}
 use Rattle.dc_int.proofs.Stores.{same_element-is}
-use Rattle.dc_code.specs.Laws.{IsFramed, DiffersAtRead, TouchesOwn, HoldsOwn, IsOwn, EndsAlike, NothingWrong, alone_runs, may_touch}
+use Rattle.dc_code.specs.Laws.{IsFramed, DiffersAtRead, KeepsLocality, KeepLocality, IsCombinable, EndsAlike, NothingWrong, alone_runs, may_touch}
 use Rattle.dc_code.specs.Loops.{Parts, Passage, alone, order, closed}
 use Rattle.dc_code.specs.Pairs.{clashes}
 use Rattle.dc_code.specs.Verdicts.{go_on, verdict}
@@ -21,6 +21,7 @@ use Rattle.dc_code.proofs.Alone.{done_alone, order-alone}
 use Rattle.dc_code.proofs.Closings.{closing-permuted}
 use Rattle.dc_code.proofs.Judged.{nothing-wrong}
 use Rattle.dc_code.proofs.Permuted.{clashes-permuted}
+use Rattle.dc_code.proofs.Reduced.{HoldsCombinable}
 
 -- What is not found among some elements fails the test.
 none-found
@@ -37,33 +38,37 @@ none-found test (y ∷ elements) x none among = by (test y) refl (same_element x
     by false fails true is none among later = ap test (same_element-is x y is) ∙ fails
     by false fails false is none among later = later none among
 
-module _ (parts : Parts) (store : Store) (framed : IsFramed parts) (differs : DiffersAtRead parts) (own : TouchesOwn parts store) where
+module _ (parts : Parts) (store : Store) (framed : IsFramed parts) (differs : DiffersAtRead parts) where
   abbrev locality : ℕ → Locality
   locality = parts.form.known.locality
 
   never-touched
-      : (iterations : List (List ℤ)) (x : ElementId) → may_touch (locality x.variable) ≡ false
+      : (iterations : List (List ℤ)) → KeepLocality parts store iterations → (x : ElementId) → may_touch (locality x.variable) ≡ false
       → list_any (touches x) (alone_runs parts store iterations) ≡ false
-  never-touched [] x never = refl
-  never-touched (at ∷ rest) x never = by (touches x (alone parts store at).entries) refl (never-touched rest x never)
+  never-touched [] keep x never = refl
+  never-touched (at ∷ rest) keep x never =
+      by (touches x (alone parts store at).entries) refl (never-touched rest (All-tail (KeepsLocality parts store) at rest keep) x never)
     where
       by
           : (b : Bool) → touches x (alone parts store at).entries ≡ b → list_any (touches x) (alone_runs parts store rest) ≡ false
           → (b || list_any (touches x) (alone_runs parts store rest)) ≡ false
-      by true touched later = absurd (false≢true (sym never ∙ own.allowed at x touched))
+      by true touched later = absurd (false≢true (sym never ∙ (All-head (KeepsLocality parts store) at rest keep).allowed x touched))
       by false apart later = later
 
-  all-own : (iterations : List (List ℤ)) → All (All (IsOwn parts.form.known)) (alone_runs parts store iterations)
-  all-own [] = All-nil (All (IsOwn parts.form.known))
-  all-own (at ∷ rest) =
-      All-cons (All (IsOwn parts.form.known)) (alone parts store at).entries (alone_runs parts store rest) (own.contributed at) (all-own rest)
+  all-combinable : (iterations : List (List ℤ)) → KeepLocality parts store iterations → All (All (IsCombinable parts.form.known)) (alone_runs parts store iterations)
+  all-combinable [] keep = All-nil (All (IsCombinable parts.form.known))
+  all-combinable (at ∷ rest) keep =
+      All-cons (All (IsCombinable parts.form.known)) (alone parts store at).entries (alone_runs parts store rest)
+      (All-head (KeepsLocality parts store) at rest keep).contributed (all-combinable rest (All-tail (KeepsLocality parts store) at rest keep))
 
   -- Where nothing is wrong, every order of the iterations ends alike.
   pub ends-alike
-      : (iterations ordered : List (List ℤ)) → HoldsOwn parts.form.known store → NothingWrong parts store iterations
+      : (iterations ordered : List (List ℤ)) → KeepLocality parts store iterations → HoldsCombinable parts.form.known store
+      → NothingWrong parts store iterations
       → IsPermutation iterations ordered
       → EndsAlike parts store iterations ordered
-  ends-alike iterations ordered holds nothing permuted =
+  ends-alike iterations ordered keep holds nothing permuted =
+      let keep_too = All-permutation (KeepsLocality parts store) iterations ordered permuted keep in
       let runs = alone_runs parts store iterations in
       let others = alone_runs parts store ordered in
       let runs_permuted : IsPermutation runs others =
@@ -76,22 +81,25 @@ module _ (parts : Parts) (store : Store) (framed : IsFramed parts) (differs : Di
       λ x some. sym (clashes-permuted (locality x.variable) x runs others runs_permuted) ∙ apart x some in
       let well = All-permutation (λ at. (alone parts store at).trouble ≡ None) iterations ordered permuted nothing.well in
       let ascending : order parts [] store iterations ≡ done_alone parts store store iterations =
-      order-alone parts store framed own iterations nothing.well apart in
-      let other : order parts [] store ordered ≡ done_alone parts store store ordered = order-alone parts store framed own ordered well apart_too in
+      order-alone parts store framed iterations keep nothing.well apart in
+      let other : order parts [] store ordered ≡ done_alone parts store store ordered = order-alone parts store framed ordered keep_too well apart_too in
       let same : closed parts (done_alone parts store store iterations) ≡ closed parts (done_alone parts store store ordered) =
-      closing-permuted parts.form.known parts.form.line store runs others runs_permuted apart (never-touched iterations) (never-touched ordered)
-      (all-own iterations) holds in
+      closing-permuted parts.form.known parts.form.line store runs others runs_permuted apart (never-touched iterations keep)
+      (never-touched ordered keep_too)
+      (all-combinable iterations keep) holds in
       record {
-        trouble = ap (λ o. o.trouble) other;
         runs = ap (λ o. o.runs) other;
-        unbroken = λ x some. ap (λ o. clashes (locality x.variable) x o.runs) other ∙ apart_too x some;
-        closing = ap (closed parts) other ∙ sym same ∙ ap (closed parts) (sym ascending);
+        ends = record {
+          well = ap (λ o. o.trouble) other;
+          unbroken = λ x some. ap (λ o. clashes (locality x.variable) x o.runs) other ∙ apart_too x some;
+          closing = ap (closed parts) other ∙ sym same ∙ ap (closed parts) (sym ascending);
+        };
       }
 
 -- Where the verdict is that the loop goes on, every order of its iterations ends alike.
 pub goes-on_alike
-    : (parts : Parts) (store : Store) → IsFramed parts → DiffersAtRead parts → TouchesOwn parts store → HoldsOwn parts.form.known store
-    → (iterations : List (List ℤ)) → verdict parts store iterations ≡ go_on
+    : (parts : Parts) (store : Store) → IsFramed parts → DiffersAtRead parts → HoldsCombinable parts.form.known store
+    → (iterations : List (List ℤ)) → KeepLocality parts store iterations → verdict parts store iterations ≡ go_on
     → (ordered : List (List ℤ)) → IsPermutation iterations ordered → EndsAlike parts store iterations ordered
-goes-on_alike parts store framed differs own holds iterations told ordered permuted =
-    ends-alike parts store framed differs own iterations ordered holds (nothing-wrong parts store own framed differs iterations told) permuted
+goes-on_alike parts store framed differs holds iterations keep told ordered permuted =
+    ends-alike parts store framed differs iterations ordered keep holds (nothing-wrong parts store framed differs iterations keep told) permuted

@@ -11,7 +11,7 @@ use Rattle.dc_int.specs.Store.{Store, elements_of}
 use Rattle.dc_code.specs.declared.verdict.Race.{Race}
 use Rattle.dc_code.specs.Breaks.{breaks, reading_breaks}
 use Rattle.dc_code.specs.Computation.{FirstDifference}
-use Rattle.dc_code.specs.Laws.{SamePassage, SameStart, IsFramed, DiffersAtRead, TouchesOwn, EndWell, TellsRace, NamesIterations, NothingWrong, alone_runs, may_touch}
+use Rattle.dc_code.specs.Laws.{SamePassage, SameStart, IsFramed, DiffersAtRead, KeepsLocality, KeepLocality, EndWell, TellsRace, NamesIterations, NothingWrong, alone_runs, may_touch}
 use Rattle.dc_code.specs.Loops.{Parts, Passage, alone, order}
 use Rattle.dc_code.specs.Pairs.{clashes, first_clash}
 use Rattle.dc_code.specs.Verdicts.{go_on, race, first_of, or_later, bad_iteration, race_in, race_between, race_among, verdict}
@@ -27,20 +27,21 @@ use Rattle.dc_code.proofs.Verdicts.{behind_first, behind_second, behind_clash, t
 not-touched : (run : List Entry) (x : ElementId) → (touches x run ≡ true → ⊥) → touches x run ≡ false
 not-touched run x never = elim (cases_Bool (touches x run)) [ inl touched ↦ absurd (never touched) | inr apart ↦ apart ]
 
-module _ (parts : Parts) (store : Store) (own : TouchesOwn parts store) where
+module _ (parts : Parts) (store : Store) where
   -- An iteration begins alike over the store and over what another leaves of it.
-  pub start-behind : (first : List ℤ) → SameStart parts.form store (store_after (alone parts store first).entries store)
-  start-behind first = record {
+  pub start-behind : (first : List ℤ) → KeepsLocality parts store first → SameStart parts.form store (store_after (alone parts store first).entries store)
+  start-behind first keeps = record {
     shape = shape-after (alone parts store first).entries store;
     copied = λ x among. value-untouched (alone parts store first).entries store x
-        (not-touched (alone parts store first).entries x (λ touched. false≢true (sym (own.apart first x touched) ∙ among)));
+        (not-touched (alone parts store first).entries x (λ touched. false≢true (sym (keeps.apart x touched) ∙ among)));
   }
 
   -- a read of what the first iteration touched, and the second didn't
   fresh-read
-      : (first : List ℤ) (x : ElementId) (before : List Entry) → touches x (alone parts store first).entries ≡ true → touches x before ≡ false
+      : (first : List ℤ) (x : ElementId) (before : List Entry) → KeepsLocality parts store first → touches x (alone parts store first).entries ≡ true
+      → touches x before ≡ false
       → reading_breaks (parts.form.known.locality x.variable) x (alone parts store first).entries before ≡ true
-  fresh-read first x before touched fresh = by (parts.form.known.locality x.variable) (own.allowed first x touched)
+  fresh-read first x before keeps touched fresh = by (parts.form.known.locality x.variable) (keeps.allowed x touched)
     where
       by : (locality : Locality) → may_touch locality ≡ true → reading_breaks locality x (alone parts store first).entries before ≡ true
       by Locality.Plain may = and-true (touches x (alone parts store first).entries) (not (touches x before)) touched (ap not fresh)
@@ -56,13 +57,13 @@ module _ (parts : Parts) (store : Store) (own : TouchesOwn parts store) where
     -- Where two iterations, each alone, break the restriction of an element, one run behind the other
     -- has a first break.
     pub behind-breaks
-        : (first second : List ℤ) (x : ElementId)
+        : (first second : List ℤ) (x : ElementId) → KeepsLocality parts store first
         → breaks (parts.form.known.locality x.variable) x (alone parts store first).entries (alone parts store second).entries ≡ true
         → HasBreak parts.form.known.locality (alone parts store first).entries (behind_it parts store first second).entries
-    behind-breaks first second x broken =
+    behind-breaks first second x keeps broken =
         subst (λ (passage : Passage). HasBreak parts.form.known.locality (alone parts store first).entries passage.entries)
         (sym (behind-is first second))
-        (by (differs.differs store (store_after (alone parts store first).entries store) second (start-behind first)))
+        (by (differs.differs store (store_after (alone parts store first).entries store) second (start-behind first keeps)))
       where
         by
             : SamePassage (alone parts store second) (alone parts (store_after (alone parts store first).entries store) second)
@@ -82,7 +83,7 @@ module _ (parts : Parts) (store : Store) (own : TouchesOwn parts store) where
             breaks-somewhere parts.form.known.locality (alone parts store first).entries
             (alone parts (store_after (alone parts store first).entries store) second).entries d.before
             (Reads d.element d.line) d.right_rest d.right_is
-            (fresh-read first d.element d.before touched d.fresh)
+            (fresh-read first d.element d.before keeps touched d.fresh)
 
 -- ---- the verdict
 
@@ -124,8 +125,8 @@ iteration-at parts store (at ∷ rest) zero run e = record { at = at; is = refl;
 iteration-at parts store (at ∷ rest) (suc k) run e =
     let later = iteration-at parts store rest k run e in record { at = later.at; is = later.is; run_is = later.run_is }
 
-module _ (parts : Parts) (store : Store) (own : TouchesOwn parts store) (framed : IsFramed parts) (differs : DiffersAtRead parts)
-    (iterations : List (List ℤ)) (well : EndWell parts store iterations) where
+module _ (parts : Parts) (store : Store) (framed : IsFramed parts) (differs : DiffersAtRead parts)
+    (iterations : List (List ℤ)) (keep : KeepLocality parts store iterations) (well : EndWell parts store iterations) where
   abbrev locality : ℕ → Locality
   locality = parts.form.known.locality
 
@@ -136,9 +137,10 @@ module _ (parts : Parts) (store : Store) (own : TouchesOwn parts store) (framed 
       → (found : Race) × (race_between parts store iterations (i, j) ≡ Some (race found first second))
   between-told i j first second x first_is second_is broken =
       let good = all-at (λ at. (alone parts store at).trouble ≡ None) iterations i first well first_is in
+      let keeps = all-at (KeepsLocality parts store) iterations i first keep first_is in
       let told =
       break-has_race locality i j (alone parts store first).entries (behind_it parts store first second).entries
-      (behind-breaks parts store own framed differs first second x broken) in
+      (behind-breaks parts store framed differs first second x keeps broken) in
       let in_runs : told_of parts store i j first second ≡ Some told.found =
       ap (race_in locality i j) (pair-runs parts store first second good) ∙ told.is in (
         told.found,
@@ -195,13 +197,13 @@ module _ (parts : Parts) (store : Store) (own : TouchesOwn parts store) (framed 
 
 -- Where the loop goes on, nothing is wrong with its iterations.
 pub nothing-wrong
-    : (parts : Parts) (store : Store) → TouchesOwn parts store → IsFramed parts → DiffersAtRead parts → (iterations : List (List ℤ))
-    → verdict parts store iterations ≡ go_on
+    : (parts : Parts) (store : Store) → IsFramed parts → DiffersAtRead parts → (iterations : List (List ℤ))
+    → KeepLocality parts store iterations → verdict parts store iterations ≡ go_on
     → NothingWrong parts store iterations
-nothing-wrong parts store own framed differs iterations told =
+nothing-wrong parts store framed differs iterations keep told =
     let nothing = told-nothing parts store iterations told in
     let well = none-bad-end_well parts store iterations nothing.bad in
-    record { well = well; clash = no-clash parts store own framed differs iterations well nothing.raced }
+    record { well = well; clash = no-clash parts store framed differs iterations keep well nothing.raced }
 
 -- ---- the iterations of a race
 

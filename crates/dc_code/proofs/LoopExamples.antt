@@ -1,11 +1,11 @@
 -- Small loops, by the blocks of their iterations: the verdict on each, and that the laws of orders can be
 -- applied.
-use Rattle.std.proofs.Common.{◌≡◌, ℕ, zero, suc, Bool, true, false, ◌||◌, List, [], ◌∷◌, All, Option, Some, None, refl, sym, ap, ◌∙◌}
-use Rattle.std.proofs.lemmas.Bool.{false≢true, and_parts}
+use Rattle.std.proofs.Common.{◌≡◌, ℕ, zero, suc, true, false, List, [], ◌∷◌, All, Option, Some, None, refl, sym, ap, ◌∙◌}
 use Rattle.std.proofs.lemmas.List.Elements.{All-nil, All-cons}
 use Rattle.std.proofs.lemmas.List.Sorted.{IsPermutation-reverse}
 use Rattle.std.proofs.lemmas.Option.{none-some, same_Some}
-use Rattle.std.specs.Prelude.{ℤ, pos, negsuc}
+use Rattle.std.specs.Int.{int_wrap}
+use Rattle.std.specs.Prelude.{ℤ, pos, negsuc, slice_get}
 use Rattle.dc_int.specs.declared.access.Action.{Action}
 use Rattle.dc_int.specs.declared.access.ElementId.{ElementId}
 use Rattle.dc_int.specs.declared.fault.FaultKind.{FaultKind}
@@ -13,19 +13,23 @@ use Rattle.dc_int.specs.declared.fault.Why.{Why}
 use Rattle.dc_int.specs.declared.kind.Kind.{Kind}
 use Rattle.dc_int.specs.declared.operation.ReduceOp.{ReduceOp}
 use Rattle.dc_int.specs.declared.variable.Locality.{Locality}
-use Rattle.dc_int.specs.Entries.{Entry, Defines, Contributes, touches}
-use Rattle.dc_int.specs.Reductions.{can_combine}
-use Rattle.dc_int.specs.Store.{Store, cell_of, value_at, put_at, same, same_element}
-use Rattle.dc_int.proofs.Stores.{same-is}
-use Rattle.dc_code.specs.Computation.{give, fail, read, define, contribute}
+use Rattle.dc_int.specs.declared.variable.Shape.{Shape}
+use Rattle.dc_int.specs.Entries.{Defines, Contributes}
+use Rattle.dc_int.specs.Reductions.{is_logical}
+use Rattle.dc_int.specs.Shapes.{store_fits}
+use Rattle.dc_int.specs.Store.{Store, cell_of, value_at, put_at}
+use Rattle.dc_code.specs.Combinations.{Span}
+use Rattle.dc_code.specs.Computation.{give, fail, read, define, contribute, pause}
 use Rattle.dc_code.specs.Inner.{parts_with}
-use Rattle.dc_code.specs.Laws.{HasPlainBlocks, TouchesOwn, HoldsOwn, IsOwn, EndsAlike, may_touch}
+use Rattle.dc_code.specs.Laws.{HasPlainBlocks, KeepsLocality, MatchesShapes, EndsAlike}
 use Rattle.dc_code.specs.Loops.{Form, Parts, alone}
 use Rattle.dc_code.specs.Passages.{Entering, ended_well}
-use Rattle.dc_code.specs.Troubles.{Computing, ended}
-use Rattle.dc_code.specs.Verdicts.{go_on, in_iteration, race, verdict}
+use Rattle.dc_code.specs.Troubles.{Computing, ended, stop}
+use Rattle.dc_code.specs.Verdicts.{go_on, at_header, in_iteration, race, verdict, stays, judgement}
 use Rattle.dc_code.proofs.GoesOn.{goes-on_alike}
+use Rattle.dc_code.proofs.Keeping.{KeepsIt, keeps-entries, all-keep}
 use Rattle.dc_code.proofs.Passages.{plain-framed, plain-differs}
+use Rattle.dc_code.proofs.Reduced.{fits-holds}
 
 -- ---- an array `a` of three elements, the last undefined, and a scalar `t` that is REDUCE
 
@@ -109,60 +113,93 @@ filling_is_plain copies (negsuc n ∷ []) = tt
 filling_is_plain copies (pos n ∷ other ∷ rest) = tt
 filling_is_plain copies (negsuc n ∷ other ∷ rest) = tt
 
--- an element that a definition touches is the one that is defined
-one-touched
-    : (x y : ElementId) (value : ℤ) (line : ℕ) (others : List Entry) → touches x others ≡ false → touches x (Defines y value line ∷ others) ≡ true
-    → same_element x y ≡ true
-one-touched x y value line others none touched = by (same_element x y) touched
+filling_keeps : (at : List ℤ) → KeepsLocality (loop_of filling) small at
+filling_keeps at = keeps-entries (loop_of filling) small at (each at)
   where
-    by : (b : Bool) → (b || touches x others) ≡ true → b ≡ true
-    by true e = refl
-    by false e = absurd (false≢true (sym none ∙ e))
+    each : (at : List ℤ) → All (KeepsIt (form_of filling)) (alone (loop_of filling) small at).entries
+    each (pos n ∷ []) =
+        All-cons (KeepsIt (form_of filling)) (Defines (a n) (pos 1) 5) (Contributes t ReduceOp.Add (pos 2) ∷ []) (record { allowed = refl; apart = refl })
+        (All-cons (KeepsIt (form_of filling)) (Contributes t ReduceOp.Add (pos 2)) [] (refl, refl) (All-nil (KeepsIt (form_of filling))))
+    each [] = All-nil (KeepsIt (form_of filling))
+    each (negsuc n ∷ []) = All-nil (KeepsIt (form_of filling))
+    each (pos n ∷ other ∷ rest) = All-nil (KeepsIt (form_of filling))
+    each (negsuc n ∷ other ∷ rest) = All-nil (KeepsIt (form_of filling))
 
-of_array : (x : ElementId) (n : ℕ) → same_element x (a n) ≡ true → may_touch (locality x.variable) ≡ true
-of_array x n equal = ap (λ v. may_touch (locality v)) (same_variable equal)
-  where
-    same_variable : same_element x (a n) ≡ true → x.variable ≡ 0
-    same_variable e = same-is x.variable 0 (and_parts (same x.variable 0) (same x.position n) e).0
+-- the variables as they are declared
+abbrev shapes : List Shape
+shapes =
+    record { kind = Kind.K4; logical = false; elements = 3 } ∷ record { kind = Kind.K4; logical = false; elements = 1 } ∷ []
 
-filling_touches_own : TouchesOwn (loop_of filling) small
-filling_touches_own = record { allowed = allowed; apart = λ at x touched. refl; contributed = contributed }
-  where
-    allowed : (at : List ℤ) (x : ElementId) → touches x (alone (loop_of filling) small at).entries ≡ true → may_touch (locality x.variable) ≡ true
-    allowed (pos n ∷ []) x touched = of_array x n (one-touched x (a n) (pos 1) 5 (Contributes t ReduceOp.Add (pos 2) ∷ []) refl touched)
-    allowed [] x touched = absurd (false≢true touched)
-    allowed (negsuc n ∷ []) x touched = absurd (false≢true touched)
-    allowed (pos n ∷ other ∷ rest) x touched = absurd (false≢true touched)
-    allowed (negsuc n ∷ other ∷ rest) x touched = absurd (false≢true touched)
-
-    contributed : (at : List ℤ) → All (IsOwn (form_of filling).known) (alone (loop_of filling) small at).entries
-    contributed (pos n ∷ []) =
-        All-cons (IsOwn (form_of filling).known) (Defines (a n) (pos 1) 5) (Contributes t ReduceOp.Add (pos 2) ∷ []) tt
-        (All-cons (IsOwn (form_of filling).known) (Contributes t ReduceOp.Add (pos 2)) [] (refl, refl) (All-nil (IsOwn (form_of filling).known)))
-    contributed [] = All-nil (IsOwn (form_of filling).known)
-    contributed (negsuc n ∷ []) = All-nil (IsOwn (form_of filling).known)
-    contributed (pos n ∷ other ∷ rest) = All-nil (IsOwn (form_of filling).known)
-    contributed (negsuc n ∷ other ∷ rest) = All-nil (IsOwn (form_of filling).known)
-
--- what the scalar holds is a number of its kind
-filling_holds_own : HoldsOwn (form_of filling).known small
-unfolding cell_of value_at
-filling_holds_own x op value is holds = by x.variable x.position is holds
+filling_matches : MatchesShapes (form_of filling).known shapes
+filling_matches = record { reduces = by }
   where
     by
-        : (v p : ℕ) → locality v ≡ Locality.Reduce op → value_at small (record { variable = v; position = p }) ≡ Some value
-        → can_combine op Kind.K4 value ≡ true
-    by zero p is holds = cc
-    by (suc zero) zero is holds =
-        let same : pos 0 ≡ value = same_Some (pos 0) value holds in
+        : (variable : ℕ) (op : ReduceOp) (shape : Shape) → locality variable ≡ Locality.Reduce op → slice_get shapes variable ≡ Some shape
+        → (Kind.K4 ≡ shape.kind) × (is_logical op ≡ shape.logical)
+    by zero op shape reduces declared = cc
+    by (suc zero) op shape reduces declared =
         let operation : ReduceOp.Add ≡ op = cc in
-        sym (λ i. can_combine (operation i) Kind.K4 (same i))
-    by (suc zero) (suc p) is holds = absurd (none-some value holds)
-    by (suc (suc v)) p is holds = absurd (none-some value holds)
+        let same_shape = same_Some (record { kind = Kind.K4; logical = false; elements = 1 }) shape declared in
+        (ap (λ (s : Shape). s.kind) same_shape, sym (ap is_logical operation) ∙ ap (λ (s : Shape). s.logical) same_shape)
+    by (suc (suc variable)) op shape reduces declared = absurd (none-some shape declared)
+
+small_fits : store_fits shapes small ≡ true
+small_fits = refl
+
+-- ---- a header
+
+abbrev by_spans : List Span → Form
+by_spans spans = record {
+  line = 3;
+  known = record { locality = locality; kind = λ variable. Kind.K4; passed = λ variable. false };
+  copied = [];
+  combines = t ∷ [];
+  header = λ turns. give (spans, turns);
+  mask = λ at. give true;
+  block = λ copies at. filling at;
+}
+
+-- one that leaves a step of zero is at fault, at its line
+step_zero
+    : judgement (parts_with no_loop (by_spans (record { first = pos 0; last = pos 2; step = pos 0 } ∷ []))) 7 small
+    ≡ stays small (at_header (ended (Why.Fault FaultKind.StepZero) 3 []))
+unfolding cell_of value_at put_at
+step_zero = refl
+
+-- one that leaves values gives the iterations, and the turns that it leaves
+opens
+    : judgement (parts_with no_loop (by_spans (record { first = pos 0; last = pos 1; step = pos 1 } ∷ []))) 7 small
+    ≡ record {
+      verdict = go_on;
+      store =
+          record { bounds = Some ((pos 1, pos 3) ∷ []); cells = Some (pos 1) ∷ Some (pos 1) ∷ None ∷ [] }
+          ∷ record { bounds = Some []; cells = Some (pos 4) ∷ [] } ∷ [];
+      turns = 7;
+    }
+unfolding cell_of value_at put_at int_wrap
+opens = refl
+
+-- a pause in a limit, to which no source comes, doesn't let the header go on without its values
+abbrev pausing : Form
+pausing = record {
+  line = 3;
+  known = record { locality = locality; kind = λ variable. Kind.K4; passed = λ variable. false };
+  copied = [];
+  combines = t ∷ [];
+  header = λ turns. pause stop (λ told. fail (record { why = Why.Spent; line = 3 }));
+  mask = λ at. give true;
+  block = λ copies at. filling at;
+}
+
+pause_in_header : judgement (parts_with no_loop pausing) 7 small ≡ stays small (at_header (ended Why.Spent 3 []))
+pause_in_header = refl
+
+-- ---- another order
 
 -- So its iterations may be run backward.
 filling_ends_alike : EndsAlike (loop_of filling) small three ((pos 2 ∷ []) ∷ (pos 1 ∷ []) ∷ (pos 0 ∷ []) ∷ [])
 filling_ends_alike =
     goes-on_alike (loop_of filling) small (plain-framed no_loop (form_of filling) filling_is_plain)
-    (plain-differs no_loop (form_of filling) filling_is_plain) filling_touches_own
-    filling_holds_own three filling_goes_on ((pos 2 ∷ []) ∷ (pos 1 ∷ []) ∷ (pos 0 ∷ []) ∷ []) (IsPermutation-reverse three)
+    (plain-differs no_loop (form_of filling) filling_is_plain)
+    (fits-holds (form_of filling).known shapes small filling_matches small_fits) three
+    (all-keep (KeepsLocality (loop_of filling) small) three filling_keeps) filling_goes_on ((pos 2 ∷ []) ∷ (pos 1 ∷ []) ∷ (pos 0 ∷ []) ∷ []) (IsPermutation-reverse three)

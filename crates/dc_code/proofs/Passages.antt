@@ -100,7 +100,7 @@ module _ (enter : Entering) (form : Form) (plain : HasPlainBlocks form) where
       let seen : (x : ElementId) → exposes x (over first (block_from first at)).entries ≡ true → value_at first x ≡ value_at second x =
       λ x read. exposed x (ap (λ passage. exposes x passage.entries) (is-over first at) ∙ read) in
       as-passages first second at start
-      (framed (block_from first at) first second (record { elements = start.shape.elements; bounds = start.shape.bounds; exposed = seen }))
+      (framed (block_from first at) first second (record { shape = start.shape; exposed = seen }))
 
   -- A loop whose blocks don't pause is framed.
   pub plain-framed : IsFramed (parts_with enter form)

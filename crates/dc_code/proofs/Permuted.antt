@@ -2,6 +2,7 @@
 -- of them touches.
 use Rattle.std.proofs.Common.{◌≡◌, ℕ, Bool, true, false, cond, ◌&&◌, ◌||◌, List, [], ◌∷◌, length, Option, Some, None, refl, sym, ap, ◌∙◌}
 use Rattle.std.proofs.lemmas.Bool.{false≢true}
+use Rattle.std.proofs.lemmas.Iterator.Adapters.{option_map_id}
 use Rattle.std.specs.Prelude.{ℤ, option_map}
 use Rattle.std.specs.List.{list_any}
 use Rattle.std.specs.List.Sorted.{IsPermutation}
@@ -9,6 +10,7 @@ use Rattle.dc_int.specs.declared.access.ElementId.{ElementId}
 use Rattle.dc_int.specs.declared.variable.Locality.{Locality}
 use Rattle.dc_int.specs.Entries.{Entry, reads, touches, exposes, store_after, state_after}
 use Rattle.dc_int.specs.Store.{Store, cell_of, value_at, bounds_of, elements_of}
+use Rattle.dc_int.proofs.Fits.{bounds-after}
 use Rattle.dc_int.proofs.Elements.{length-after, elements-after}
 use Rattle.dc_int.proofs.Stores.{cell-after, state-after}
 use Rattle.dc_code.specs.Breaks.{breaks, accesses}
@@ -16,7 +18,7 @@ use Rattle.dc_code.specs.Closing.{is_touched_twice}
 use Rattle.dc_code.specs.Pairs.{clashes}
 use Rattle.dc_code.proofs.Alone.{left_by, or-neither}
 use Rattle.dc_code.proofs.Exchanges.{by_exchanges, some_pair, PassAlike, pass-alike, alike-under, alike-two}
-use Rattle.dc_code.proofs.Stores.{bounds-after, value-untouched}
+use Rattle.dc_code.proofs.Stores.{value-untouched}
 
 -- ---- clashes, and elements that are touched twice
 
@@ -127,20 +129,16 @@ abbrev pub state_left : ElementId → List (List Entry) → Option ℤ → Optio
 state_left x [] state = state
 state_left x (run ∷ runs) state = state_left x runs (state_after x run state)
 
-map-same : (cell : Option (Option ℤ)) → cell ≡ option_map (λ state. state) cell
-map-same None = refl
-map-same (Some state) = refl
-
-map-then : (f g : Option ℤ → Option ℤ) (cell : Option (Option ℤ)) → option_map f (option_map g cell) ≡ option_map (λ state. f (g state)) cell
-map-then f g None = refl
-map-then f g (Some state) = refl
-
 pub cell-left
     : (runs : List (List Entry)) (store : Store) (x : ElementId) → cell_of (left_by runs store) x ≡ option_map (state_left x runs) (cell_of store x)
-cell-left [] store x = map-same (cell_of store x)
+cell-left [] store x = sym (option_map_id (cell_of store x))
 cell-left (run ∷ runs) store x =
     cell-left runs (store_after run store) x ∙ ap (option_map (state_left x runs)) (cell-after run store x)
-    ∙ map-then (state_left x runs) (state_after x run) (cell_of store x)
+    ∙ by (cell_of store x)
+  where
+    by : (cell : Option (Option ℤ)) → option_map (state_left x runs) (option_map (state_after x run) cell) ≡ option_map (state_left x (run ∷ runs)) cell
+    by None = refl
+    by (Some state) = refl
 
 pub elements-left : (runs : List (List Entry)) (store : Store) → elements_of (left_by runs store) ≡ elements_of store
 elements-left [] store = refl

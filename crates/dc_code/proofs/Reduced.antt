@@ -2,25 +2,57 @@
 use Rattle.std.proofs.Common.{◌≡◌, ℕ, Bool, true, false, List, [], ◌∷◌, All, Option, Some, None, refl, sym, ap, ◌∙◌, subst}
 use Rattle.std.proofs.lemmas.List.Elements.{All-nil, All-cons, All-head, All-tail, All-append}
 use Rattle.std.proofs.lemmas.Option.{none-some, same_Some}
-use Rattle.std.specs.Prelude.{ℤ, filter_map}
+use Rattle.std.specs.Prelude.{ℤ, filter_map, slice_get, option_and_then}
 use Rattle.std.specs.List.{list_any}
 use Rattle.std.specs.List.Sorted.{IsPermutation}
 use Rattle.dc_int.specs.declared.access.ElementId.{ElementId}
 use Rattle.dc_int.specs.declared.kind.Kind.{Kind}
 use Rattle.dc_int.specs.declared.operation.ReduceOp.{ReduceOp}
 use Rattle.dc_int.specs.declared.variable.Locality.{Locality}
+use Rattle.dc_int.specs.declared.variable.Shape.{Shape}
 use Rattle.dc_int.specs.Entries.{Entry, Reads, Defines, Undefines, Contributes, touches}
 use Rattle.dc_int.specs.Reductions.{can_combine, combined}
-use Rattle.dc_int.specs.Store.{Store, value_at, same_element}
+use Rattle.dc_int.specs.Store.{Variable, Store, cell_of, value_at, number_in, same_element}
+use Rattle.dc_int.specs.Shapes.{store_fits}
+use Rattle.dc_int.proofs.Fits.{shape-of, fits-value, fits-combines}
 use Rattle.dc_int.proofs.Reductions.{combined-inside, combined-swap}
 use Rattle.dc_int.proofs.Stores.{same_element-is}
 use Rattle.dc_code.specs.Closing.{Localities, contributed_by, contributed, combined_with, own_operation, reduced}
-use Rattle.dc_code.specs.Laws.{IsOwn, HoldsOwn, may_touch}
+use Rattle.dc_code.specs.Laws.{IsCombinable, MatchesShapes, may_touch}
 use Rattle.dc_code.proofs.Alone.{left_by}
 use Rattle.dc_code.proofs.Exchanges.{by_exchanges, flat_map-permutation}
 use Rattle.dc_code.proofs.Permuted.{value-left}
 
 -- ---- values that are combined
+
+-- Each REDUCE element that has a value has one that its operation combines.
+abbrev pub HoldsCombinable : Localities → Store → Type 0
+HoldsCombinable known store =
+    (x : ElementId) (op : ReduceOp) (value : ℤ) → known.locality x.variable ≡ Locality.Reduce op → value_at store x ≡ Some value
+    → can_combine op (known.kind x.variable) value ≡ true
+
+-- An element that has a value is one of a declared variable.
+value-declared
+    : (shapes : List Shape) (store : Store) (x : ElementId) (value : ℤ) → store_fits shapes store ≡ true → value_at store x ≡ Some value
+    → (shape : Shape) × (slice_get shapes x.variable ≡ Some shape)
+unfolding value_at cell_of
+value-declared shapes store x value fits holds = by (slice_get store x.variable) refl holds
+  where
+    by
+        : (found : Option Variable) → slice_get store x.variable ≡ found
+        → number_in (option_and_then (λ variable. slice_get variable.cells x.position) found) ≡ Some value
+        → (shape : Shape) × (slice_get shapes x.variable ≡ Some shape)
+    by None is none = absurd (none-some value none)
+    by (Some variable) is here = let of = shape-of shapes store x.variable variable fits is in (of.shape, of.is)
+
+-- So it is in a store that fits the declared variables.
+pub fits-holds
+    : (known : Localities) (shapes : List Shape) (store : Store) → MatchesShapes known shapes → store_fits shapes store ≡ true → HoldsCombinable known store
+fits-holds known shapes store matches fits x op value reduces holds =
+    let declared = value-declared shapes store x value fits holds in
+    let same = matches.reduces x.variable op declared.0 reduces declared.1 in
+    ap (λ kind. can_combine op kind value) same.0
+    ∙ fits-combines op declared.0 value same.1 (fits-value shapes store x declared.0 value fits declared.1 holds)
 
 abbrev Can : ReduceOp → Kind → ℤ → Type 0
 Can op kind value = can_combine op kind value ≡ true
@@ -59,21 +91,21 @@ combine-alike op kind = by_exchanges (λ values others. All (Can op kind) values
 -- Each contribution of a run to an element of a reduction is a value that its operation combines.
 can-contributed_by
     : (known : Localities) (op : ReduceOp) (x : ElementId) → known.locality x.variable ≡ Locality.Reduce op → (run : List Entry)
-    → All (IsOwn known) run
+    → All (IsCombinable known) run
     → All (Can op (known.kind x.variable)) (filter_map (contributed_by x) run)
 can-contributed_by known op x is [] own = All-nil (Can op (known.kind x.variable))
-can-contributed_by known op x is (Reads y line ∷ run) own = can-contributed_by known op x is run (All-tail (IsOwn known) (Reads y line) run own)
+can-contributed_by known op x is (Reads y line ∷ run) own = can-contributed_by known op x is run (All-tail (IsCombinable known) (Reads y line) run own)
 can-contributed_by known op x is (Defines y value line ∷ run) own =
-    can-contributed_by known op x is run (All-tail (IsOwn known) (Defines y value line) run own)
+    can-contributed_by known op x is run (All-tail (IsCombinable known) (Defines y value line) run own)
 can-contributed_by known op x is (Undefines y line ∷ run) own =
-    can-contributed_by known op x is run (All-tail (IsOwn known) (Undefines y line) run own)
+    can-contributed_by known op x is run (All-tail (IsCombinable known) (Undefines y line) run own)
 can-contributed_by known op x is (Contributes y other value ∷ run) own =
-    by (same_element x y) refl (can-contributed_by known op x is run (All-tail (IsOwn known) (Contributes y other value) run own))
-    (All-head (IsOwn known) (Contributes y other value) run own)
+    by (same_element x y) refl (can-contributed_by known op x is run (All-tail (IsCombinable known) (Contributes y other value) run own))
+    (All-head (IsCombinable known) (Contributes y other value) run own)
   where
     by
         : (b : Bool) → same_element x y ≡ b → All (Can op (known.kind x.variable)) (filter_map (contributed_by x) run)
-        → IsOwn known (Contributes y other value)
+        → IsCombinable known (Contributes y other value)
         → All (Can op (known.kind x.variable)) (filter_map (contributed_by x) (Contributes y other value ∷ run))
     by true same rest (locality_is, suits) =
         let here : x ≡ y = same_element-is x y same in
@@ -86,17 +118,17 @@ can-contributed_by known op x is (Contributes y other value ∷ run) own =
 
 can-contributed
     : (known : Localities) (op : ReduceOp) (x : ElementId) → known.locality x.variable ≡ Locality.Reduce op → (runs : List (List Entry))
-    → All (All (IsOwn known)) runs
+    → All (All (IsCombinable known)) runs
     → All (Can op (known.kind x.variable)) (contributed x runs)
 can-contributed known op x is [] own = All-nil (Can op (known.kind x.variable))
 can-contributed known op x is (run ∷ runs) own =
     All-append (Can op (known.kind x.variable)) (filter_map (contributed_by x) run) (contributed x runs)
-    (can-contributed_by known op x is run (All-head (All (IsOwn known)) run runs own))
-    (can-contributed known op x is runs (All-tail (All (IsOwn known)) run runs own))
+    (can-contributed_by known op x is run (All-head (All (IsCombinable known)) run runs own))
+    (can-contributed known op x is runs (All-tail (All (IsCombinable known)) run runs own))
 
 -- ---- the definition of an element
 
-own-is : (known : Localities) (variable : ℕ) (op : ReduceOp) → own_operation known variable ≡ Some op → known.locality variable ≡ Locality.Reduce op
+pub own-is : (known : Localities) (variable : ℕ) (op : ReduceOp) → own_operation known variable ≡ Some op → known.locality variable ≡ Locality.Reduce op
 own-is known variable op e = by_passed (known.passed variable) refl
   where
     by_locality
@@ -115,11 +147,11 @@ own-is known variable op e = by_passed (known.passed variable) refl
     by_passed false kept = by_locality kept (known.locality variable) refl
 
 -- the definition of an element by its operation and its value
-abbrev defined_by : Localities → ℕ → List (List Entry) → ElementId → Option ReduceOp → Option ℤ → Option Entry
+abbrev pub defined_by : Localities → ℕ → List (List Entry) → ElementId → Option ReduceOp → Option ℤ → Option Entry
 defined_by known line runs x (Some op) (Some value) = Some (Defines x (combined_with op (known.kind x.variable) value (contributed x runs)) line)
 defined_by known line runs x op value = None
 
-reduced-is
+pub reduced-is
     : (known : Localities) (line : ℕ) (runs : List (List Entry)) (store : Store) (x : ElementId)
     → reduced known line runs store x ≡ defined_by known line runs x (own_operation known x.variable) (value_at store x)
 reduced-is known line runs store x = by (own_operation known x.variable) (value_at store x) refl refl
@@ -134,7 +166,7 @@ reduced-is known line runs store x = by (own_operation known x.variable) (value_
 -- An element of a reduction is defined alike by runs and by a permutation of them.
 pub reduced-permuted
     : (known : Localities) (line : ℕ) (runs others : List (List Entry)) (store : Store) → IsPermutation runs others
-    → All (All (IsOwn known)) runs → HoldsOwn known store
+    → All (All (IsCombinable known)) runs → HoldsCombinable known store
     → ((x : ElementId) → may_touch (known.locality x.variable) ≡ false → list_any (touches x) runs ≡ false)
     → ((x : ElementId) → may_touch (known.locality x.variable) ≡ false → list_any (touches x) others ≡ false)
     → (x : ElementId) → reduced known line runs (left_by runs store) x ≡ reduced known line others (left_by others store) x

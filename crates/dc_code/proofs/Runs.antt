@@ -1,13 +1,14 @@
 -- The laws of computations over a store.
-use Rattle.std.proofs.Common.{◌≡◌, ◌≢◌, ◌⊎◌, inl, inr, ℕ, zero, suc, Bool, true, false, cond, not, ◌&&◌, ◌||◌, List, [], ◌∷◌, Option, Some, None, refl, sym, ap, ◌∙◌, subst}
+use Rattle.std.proofs.Common.{◌≡◌, ◌≢◌, ◌⊎◌, inl, inr, Bool, true, false, cond, not, ◌&&◌, ◌||◌, List, [], ◌∷◌, Option, Some, None, refl, sym, ap, ◌∙◌, subst}
 use Rattle.std.specs.Ordering.{int_eq}
 use Rattle.std.proofs.lemmas.Bool.{cases_Bool, false≢true}
 use Rattle.std.proofs.lemmas.Bool.Decides.{Decides-int_eq}
 use Rattle.std.proofs.lemmas.Option.{none-some, same_Some}
 use Rattle.std.specs.Prelude.{ℤ, is_some, option_map}
 use Rattle.dc_int.specs.declared.access.ElementId.{ElementId}
-use Rattle.dc_int.specs.Store.{Store, cell_of, value_at, put_at, bounds_of, same_element, number_in, changed_at, with_cell}
+use Rattle.dc_int.specs.Store.{Store, cell_of, value_at, put_at, bounds_of, same_element, number_in}
 use Rattle.dc_int.specs.Entries.{Entry, Reads, Defines, Undefines, Contributes, store_after, touches, exposes, is_touch_of, state_after}
+use Rattle.dc_int.proofs.Fits.{bounds-put}
 use Rattle.dc_int.proofs.Stores.{replaced, cell-put, cell-after, state-after, same_element-itself}
 use Rattle.dc_code.specs.Computation.{Computation, give, fail, read, define, undefine, contribute, ask, pause, sequence, Run, over, behind, followed, Agree, SameRun, SameShape, FirstDifference}
 
@@ -43,18 +44,6 @@ untouched entries store x apart = cell-after entries store x ∙ kept (cell_of s
 
 -- ---- stores that agree
 
-bounds-changed : (store : Store) (v w p : ℕ) (state : Option ℤ) → bounds_of (changed_at (with_cell p state) store v) w ≡ bounds_of store w
-bounds-changed [] v w p state = refl
-bounds-changed (variable ∷ store) zero zero p state = refl
-bounds-changed (variable ∷ store) zero (suc w) p state = refl
-bounds-changed (variable ∷ store) (suc v) zero p state = refl
-bounds-changed (variable ∷ store) (suc v) (suc w) p state = bounds-changed store v w p state
-
--- a write leaves the bounds of each variable
-pub bounds-put : (store : Store) (y : ElementId) (state : Option ℤ) (variable : ℕ) → bounds_of (put_at store y state) variable ≡ bounds_of store variable
-unfolding put_at
-bounds-put store y state variable = bounds-changed store y.variable variable y.position state
-
 some-replaced : (b : Bool) (state : Option ℤ) (cell : Option (Option ℤ)) → is_some (replaced b state cell) ≡ is_some cell
 some-replaced true state None = refl
 some-replaced true state (Some old) = refl
@@ -70,25 +59,30 @@ pub value-cell : (store : Store) (x : ElementId) → value_at store x ≡ number
 unfolding value_at
 value-cell store x = refl
 
+shape-put : (first second : Store) (x : ElementId) (state : Option ℤ) → SameShape first second → SameShape (put_at first x state) (put_at second x state)
+shape-put first second x state shape = record {
+  elements = λ y. ap is_some (cell-put first x y state) ∙ some-replaced (same_element y x) state (cell_of first y) ∙ shape.elements y
+      ∙ sym (ap is_some (cell-put second x y state) ∙ some-replaced (same_element y x) state (cell_of second y));
+  bounds = λ variable. bounds-put first x state variable ∙ shape.bounds variable ∙ sym (bounds-put second x state variable);
+}
+
 -- one write to both of two stores that agree, where the first entry touches the written element
 agree-put : (first second : Store) (x : ElementId) (state : Option ℤ) (entry : Entry) (entries : List Entry) → ((y : ElementId) → exposes y (entry ∷ entries) ≡ (not (same_element y x) && exposes y entries))
     → Agree first second (entry ∷ entries) → Agree (put_at first x state) (put_at second x state) entries
 agree-put first second x state entry entries touches_x agree = record {
-  elements = λ y. ap is_some (cell-put first x y state) ∙ some-replaced (same_element y x) state (cell_of first y) ∙ agree.elements y
-      ∙ sym (ap is_some (cell-put second x y state) ∙ some-replaced (same_element y x) state (cell_of second y));
-  bounds = λ variable. bounds-put first x state variable ∙ agree.bounds variable ∙ sym (bounds-put second x state variable);
+  shape = shape-put first second x state agree.shape;
   exposed = λ y seen. value-cell (put_at first x state) y ∙ ap number_in (cell-put first x y state) ∙ by_place y seen (same_element y x) refl
       ∙ sym (value-cell (put_at second x state) y ∙ ap number_in (cell-put second x y state));
 }
   where
     by_place : (y : ElementId) → exposes y entries ≡ true → (b : Bool) → same_element y x ≡ b
         → number_in (replaced (same_element y x) state (cell_of first y)) ≡ number_in (replaced (same_element y x) state (cell_of second y))
-    by_place y seen true e = rw e (same-replaced state (cell_of first y) (cell_of second y) (agree.elements y))
+    by_place y seen true e = rw e (same-replaced state (cell_of first y) (cell_of second y) (agree.shape.elements y))
     by_place y seen false e = rw e (sym (value-cell first y) ∙ agree.exposed y (touches_x y ∙ (rw (e, seen) refl)) ∙ value-cell second y)
 
 -- an entry that touches nothing
 agree-behind : (first second : Store) (entry : Entry) (entries : List Entry) → ((y : ElementId) → exposes y entries ≡ true → exposes y (entry ∷ entries) ≡ true) → Agree first second (entry ∷ entries) → Agree first second entries
-agree-behind first second entry entries still agree = record { elements = agree.elements; bounds = agree.bounds; exposed = λ y seen. agree.exposed y (still y seen) }
+agree-behind first second entry entries still agree = record { shape = agree.shape; exposed = λ y seen. agree.exposed y (still y seen) }
 
 or-true : (a b : Bool) → b ≡ true → (a || b) ≡ true
 or-true true b e = refl
@@ -117,7 +111,7 @@ framed (contribute x op value rest) first second agree =
     same-behind (Contributes x op value) (over first rest) (over second rest)
     (framed rest first second (agree-behind first second (Contributes x op value) (over first rest).entries (λ y seen. seen) agree))
 framed (ask variable rest) first second agree =
-    subst (λ o. SameRun (over first (rest (bounds_of first variable))) (over second (rest o))) (agree.bounds variable) (framed (rest (bounds_of first variable)) first second agree)
+    subst (λ o. SameRun (over first (rest (bounds_of first variable))) (over second (rest o))) (agree.shape.bounds variable) (framed (rest (bounds_of first variable)) first second agree)
 framed (pause event rest) first second agree = record { entries = refl; reached = refl }
 
 -- ---- the first difference
@@ -132,13 +126,6 @@ decide_state (Some x) (Some y) =
       | inl equal ↦ inl (ap (λ (z : ℤ). Some z) (decided.0 equal))
       | inr other ↦ inr (λ e. false≢true (sym other ∙ decided.1 (same_Some x y e)))
     ]
-
-shape-put : (first second : Store) (x : ElementId) (state : Option ℤ) → SameShape first second → SameShape (put_at first x state) (put_at second x state)
-shape-put first second x state shape = record {
-  elements = λ y. ap is_some (cell-put first x y state) ∙ some-replaced (same_element y x) state (cell_of first y) ∙ shape.elements y
-      ∙ sym (ap is_some (cell-put second x y state) ∙ some-replaced (same_element y x) state (cell_of second y));
-  bounds = λ variable. bounds-put first x state variable ∙ shape.bounds variable ∙ sym (bounds-put second x state variable);
-}
 
 -- a difference behind one entry that the element is not touched by
 difference-behind : (first second : Store) (entry : Entry) (left right : List Entry) (d : FirstDifference first second left right) → is_touch_of d.element entry ≡ false → FirstDifference first second (entry ∷ left) (entry ∷ right)

@@ -1,24 +1,13 @@
 -- What entries leave of a store.
-use Rattle.std.proofs.Common.{◌≡◌, ℕ, false, List, [], ◌∷◌, Option, Some, None, refl, sym, ap, ◌∙◌}
+use Rattle.std.proofs.Common.{◌≡◌, false, List, Option, Some, None, refl, sym, ap, ◌∙◌}
 use Rattle.std.specs.Prelude.{ℤ, is_some, option_map}
 use Rattle.dc_int.specs.declared.access.ElementId.{ElementId}
-use Rattle.dc_int.specs.Entries.{Entry, Reads, Defines, Undefines, Contributes, store_after, store_after_entry, touches, state_after}
-use Rattle.dc_int.specs.Store.{Store, cell_of, value_at, bounds_of, number_in}
+use Rattle.dc_int.specs.Entries.{Entry, store_after, touches, state_after}
+use Rattle.dc_int.specs.Store.{Store, cell_of, value_at, number_in}
+use Rattle.dc_int.proofs.Fits.{bounds-after}
 use Rattle.dc_int.proofs.Stores.{cell-after}
 use Rattle.dc_code.specs.Computation.{SameShape}
-use Rattle.dc_code.proofs.Runs.{bounds-put, untouched, value-cell}
-
-bounds-after_entry : (entry : Entry) (store : Store) (variable : ℕ) → bounds_of (store_after_entry entry store) variable ≡ bounds_of store variable
-bounds-after_entry (Reads x line) store variable = refl
-bounds-after_entry (Defines x value line) store variable = bounds-put store x (Some value) variable
-bounds-after_entry (Undefines x line) store variable = bounds-put store x None variable
-bounds-after_entry (Contributes x op value) store variable = refl
-
--- Entries leave the bounds of each variable.
-pub bounds-after : (entries : List Entry) (store : Store) (variable : ℕ) → bounds_of (store_after entries store) variable ≡ bounds_of store variable
-bounds-after [] store variable = refl
-bounds-after (entry ∷ entries) store variable =
-    bounds-after entries (store_after_entry entry store) variable ∙ bounds-after_entry entry store variable
+use Rattle.dc_code.proofs.Runs.{untouched, value-cell}
 
 -- Entries make no element, and take none away.
 pub shape-after : (entries : List Entry) (store : Store) → SameShape store (store_after entries store)

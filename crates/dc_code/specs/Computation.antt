@@ -74,22 +74,21 @@ followed run next = behind run.entries (from run.store run.reached next)
     from store (bad trouble) next = ended store (bad trouble)
     from store (paused event rest) next = ended store (paused event (λ told. sequence (rest told) next))
 
+-- Two stores have the same elements and bounds.
+pub record SameShape (first second : Store) : Type 0 where
+  pub elements : (x : ElementId) → is_some (cell_of first x) ≡ is_some (cell_of second x)
+  pub bounds : (variable : ℕ) → bounds_of first variable ≡ bounds_of second variable
+
 -- Two stores agree for these entries: they have the same elements and bounds, and the same value of
 -- each element with an exposed read among the entries.
 pub record Agree (first second : Store) (entries : List Entry) : Type 0 where
-  pub elements : (x : ElementId) → is_some (cell_of first x) ≡ is_some (cell_of second x)
-  pub bounds : (variable : ℕ) → bounds_of first variable ≡ bounds_of second variable
+  pub shape : SameShape first second
   pub exposed : (x : ElementId) → exposes x entries ≡ true → value_at first x ≡ value_at second x
 
 -- Over another store that agrees, a computation makes the same entries and ends alike.
 pub record SameRun {E T A : Type 0} (first second : Run E T A) : Type 0 where
   pub entries : second.entries ≡ first.entries
   pub reached : second.reached ≡ first.reached
-
--- Two stores have the same elements and bounds.
-pub record SameShape (first second : Store) : Type 0 where
-  pub elements : (x : ElementId) → is_some (cell_of first x) ≡ is_some (cell_of second x)
-  pub bounds : (variable : ℕ) → bounds_of first variable ≡ bounds_of second variable
 
 -- The first difference of two runs of one computation: after the same entries both read an element
 -- that was not touched before, and of which the stores hold different states.

@@ -1,27 +1,16 @@
 -- What the verdict on a loop of the main program says of every order of its iterations. This project's own, on
 -- ISO/IEC 1539-1:2023, clauses 11.1.7.4 and 11.1.7.5.
-use Rattle.std.specs.Prelude.{◌≡◌, ◌⊎◌, ℕ, true, false, List, [], ◌∷◌, slice_get, Some, None, is_some, ℤ}
+use Rattle.std.specs.Prelude.{◌≡◌, ◌⊎◌, ℕ, List, [], ◌∷◌, slice_get, Some, ℤ}
 use Rattle.std.specs.List.Sorted.{IsPermutation}
-use Rattle.dc_int.specs.declared.access.ElementId.{ElementId}
-use Rattle.dc_int.specs.Store.{Store, cell_of}
+use Rattle.dc_int.specs.Store.{Store}
 use Rattle.dc_code.specs.declared.verdict.Race.{Race}
 use Rattle.dc_code.specs.Computation.{done, bad, over}
 use Rattle.dc_code.specs.Inner.{judging}
-use Rattle.dc_code.specs.Laws.{EndsAt, BeginsWithRace, NamesIterations}
-use Rattle.dc_code.specs.Loops.{Opened, opened, Parts, order, closed}
-use Rattle.dc_code.specs.Pairs.{clashes}
+use Rattle.dc_code.specs.Laws.{EndsAt, EndsWith, BeginsWithRace, NamesIterations}
+use Rattle.dc_code.specs.Loops.{Opened, opened, Parts, order}
 use Rattle.dc_code.specs.Troubles.{Trouble}
 use Rattle.dc_code.specs.Verdicts.{Verdict, go_on, at_header, in_iteration, race}
 use Rattle.dc_code.specs.Visits.{visited}
-
--- In this order all iterations end well, no two break the restriction of an element of the store, and the
--- loop ends with this store.
-pub record EndsWith (loop : Parts) (store : Store) (ordered : List (List ℤ)) (after : Store) : Type 0 where
-  pub well : (order loop [] store ordered).trouble ≡ None
-  pub unbroken
-      : (x : ElementId) → is_some (cell_of store x) ≡ true
-      → clashes (loop.form.known.locality x.variable) x (order loop [] store ordered).runs ≡ false
-  pub closing : closed loop (order loop [] store ordered) ≡ after
 
 -- Every order of the iterations ends with this one store.
 pub record AllEndWith (loop : Parts) (store : Store) (iterations : List (List ℤ)) (after : Store) : Type 0 where

@@ -7,15 +7,17 @@ use Rattle.dc_int.specs.declared.access.Action.{Action}
 use Rattle.dc_int.specs.declared.access.ElementId.{ElementId}
 use Rattle.dc_int.specs.declared.operation.ReduceOp.{ReduceOp}
 use Rattle.dc_int.specs.declared.variable.Locality.{Locality}
+use Rattle.dc_int.specs.declared.variable.Shape.{Shape}
 use Rattle.dc_int.specs.Entries.{Entry, Contributes, touches, exposes, accesses_of, store_after}
-use Rattle.dc_int.specs.Reductions.{can_combine}
+use Rattle.dc_int.specs.Reductions.{is_logical, can_combine}
+use Rattle.dc_int.specs.Shapes.{store_fits, state_fits}
 use Rattle.dc_int.specs.Store.{Store, cell_of, value_at, same_element}
 use Rattle.dc_code.specs.declared.verdict.Party.{Party}
 use Rattle.dc_code.specs.declared.verdict.Race.{Race}
 use Rattle.dc_code.specs.Breaks.{breaks}
 use Rattle.dc_code.specs.Closing.{Localities}
 use Rattle.dc_code.specs.Computation.{Computation, give, fail, read, define, undefine, contribute, ask, pause, SameShape, FirstDifference}
-use Rattle.dc_code.specs.Loops.{Form, Copies, Passage, Parts, Ordered, alone, order, closed}
+use Rattle.dc_code.specs.Loops.{Form, Copies, Orders, Passage, Parts, Ordered, alone, order, closed}
 use Rattle.dc_code.specs.Pairs.{clashes, first_clash}
 use Rattle.dc_code.specs.Troubles.{Trouble}
 use Rattle.dc_code.specs.Verdicts.{Verdict, race}
@@ -124,18 +126,21 @@ may_touch Locality.Shared = true
 may_touch locality = false
 
 -- A contribution is to a REDUCE element, by the operation of its variable, of a value that this combines.
-abbrev pub IsOwn : Localities → Entry → Type 0
-IsOwn known (Contributes x op value) =
+abbrev pub IsCombinable : Localities → Entry → Type 0
+IsCombinable known (Contributes x op value) =
     (known.locality x.variable ≡ Locality.Reduce op) × (can_combine op (known.kind x.variable) value ≡ true)
-IsOwn known entry = Unit
+IsCombinable known entry = Unit
 
--- Alone on this store, an iteration touches only elements that it may, and none that LOCAL_INIT entities
--- copy, and its contributions are to elements of its loop's own reductions.
-pub record TouchesOwn (parts : Parts) (store : Store) : Type 0 where
-  pub allowed
-      : (at : List ℤ) (x : ElementId) → touches x (alone parts store at).entries ≡ true → may_touch (parts.form.known.locality x.variable) ≡ true
-  pub apart : (at : List ℤ) (x : ElementId) → touches x (alone parts store at).entries ≡ true → list_any (same_element x) parts.form.copied ≡ false
-  pub contributed : (at : List ℤ) → All (IsOwn parts.form.known) (alone parts store at).entries
+-- Alone on this store, the iteration with these index values keeps the localities of its loop: it touches only
+-- elements that it may, and none that LOCAL_INIT entities copy, and its contributions can be combined.
+pub record KeepsLocality (parts : Parts) (store : Store) (at : List ℤ) : Type 0 where
+  pub allowed : (x : ElementId) → touches x (alone parts store at).entries ≡ true → may_touch (parts.form.known.locality x.variable) ≡ true
+  pub apart : (x : ElementId) → touches x (alone parts store at).entries ≡ true → list_any (same_element x) parts.form.copied ≡ false
+  pub contributed : All (IsCombinable parts.form.known) (alone parts store at).entries
+
+-- Each of the iterations does.
+abbrev pub KeepLocality : Parts → Store → List (List ℤ) → Type 0
+KeepLocality parts store iterations = All (KeepsLocality parts store) iterations
 
 -- Each of the iterations, alone on the store, ends well.
 abbrev pub EndWell : Parts → Store → List (List ℤ) → Type 0
@@ -157,20 +162,44 @@ pub record NothingWrong (parts : Parts) (store : Store) (iterations : List (List
   pub well : EndWell parts store iterations
   pub clash : first_clash parts.form.known.locality store (alone_runs parts store iterations) ≡ None
 
+-- ---- stores that fit the declared variables
+
+-- Over each store that fits, each iteration leaves one that does.
+pub record KeepsFitting (shapes : List Shape) (loop : Parts) : Type 0 where
+  pub each
+      : (store : Store) (orders : Orders) (at : List ℤ) → store_fits shapes store ≡ true → store_fits shapes (loop.block store orders at).store ≡ true
+
+-- Where each read is told a state that fits, each definition is of a value that does.
+abbrev pub DefinesFitting : {E T A : Type 0} → List Shape → Computation E T A → Type 0
+DefinesFitting shapes (give a) = Unit
+DefinesFitting shapes (fail trouble) = Unit
+DefinesFitting shapes (read x line rest) = (state : Option ℤ) → state_fits shapes x state ≡ true → DefinesFitting shapes (rest state)
+DefinesFitting shapes (define x value line rest) = (state_fits shapes x (Some value) ≡ true) × DefinesFitting shapes rest
+DefinesFitting shapes (undefine x line rest) = DefinesFitting shapes rest
+DefinesFitting shapes (contribute x op value rest) = DefinesFitting shapes rest
+DefinesFitting shapes (ask variable rest) = (bounds : Option (List (ℤ × ℤ))) → DefinesFitting shapes (rest bounds)
+DefinesFitting shapes (pause event rest) = (told : ℤ) → DefinesFitting shapes (rest told)
+
 -- ---- a loop that goes on
 
--- Each REDUCE element that has a value has one that its operation combines.
-abbrev pub HoldsOwn : Localities → Store → Type 0
-HoldsOwn known store =
-    (x : ElementId) (op : ReduceOp) (value : ℤ) → known.locality x.variable ≡ Locality.Reduce op → value_at store x ≡ Some value
-    → can_combine op (known.kind x.variable) value ≡ true
+-- The loop takes its REDUCE variables as they are declared: of their kind, and of LOGICAL where their operation
+-- is one on LOGICAL.
+pub record MatchesShapes (known : Localities) (shapes : List Shape) : Type 0 where
+  pub reduces
+      : (variable : ℕ) (op : ReduceOp) (shape : Shape) → known.locality variable ≡ Locality.Reduce op → slice_get shapes variable ≡ Some shape
+      → (known.kind variable ≡ shape.kind) × (is_logical op ≡ shape.logical)
 
--- In this order all iterations end well; each makes the entries that it makes alone, and so no two break
--- the restriction of any element of the store; and the loop ends with the same store as in ascending order.
-pub record EndsAlike (parts : Parts) (store : Store) (iterations ordered : List (List ℤ)) : Type 0 where
-  pub trouble : (order parts [] store ordered).trouble ≡ None
-  pub runs : (order parts [] store ordered).runs ≡ alone_runs parts store ordered
+-- In this order all iterations end well, no two break the restriction of an element of the store, and the
+-- loop ends with this store.
+pub record EndsWith (loop : Parts) (store : Store) (ordered : List (List ℤ)) (after : Store) : Type 0 where
+  pub well : (order loop [] store ordered).trouble ≡ None
   pub unbroken
       : (x : ElementId) → is_some (cell_of store x) ≡ true
-      → clashes (parts.form.known.locality x.variable) x (order parts [] store ordered).runs ≡ false
-  pub closing : closed parts (order parts [] store ordered) ≡ closed parts (order parts [] store iterations)
+      → clashes (loop.form.known.locality x.variable) x (order loop [] store ordered).runs ≡ false
+  pub closing : closed loop (order loop [] store ordered) ≡ after
+
+-- This order ends with the same store as the ascending one, and each iteration makes the entries that it makes
+-- alone.
+pub record EndsAlike (parts : Parts) (store : Store) (iterations ordered : List (List ℤ)) : Type 0 where
+  pub runs : (order parts [] store ordered).runs ≡ alone_runs parts store ordered
+  pub ends : EndsWith parts store ordered (closed parts (order parts [] store iterations))

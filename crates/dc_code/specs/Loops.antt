@@ -57,12 +57,15 @@ greatest_count = 4194304
 abbrev pub header_fault : {A : Type 0} → FaultKind → ℕ → Opening A
 header_fault kind line = fail (ended (Why.Fault kind) line [])
 
+abbrev pub are_too_many : List Span → Bool
+are_too_many spans = nat_lt greatest_count (combination_count spans)
+
 -- The combinations, unless a step is zero or there are too many. The header of a source finds a zero step by
 -- itself, before it goes on to the next index; here it is found where a header leaves one.
 abbrev pub combined_values : ℕ → List Span → Opening (List (List ℤ))
 combined_values line spans =
     if list_any has_zero_step spans then header_fault FaultKind.StepZero line
-    else if nat_lt greatest_count (combination_count spans) then header_fault FaultKind.TooManyIterations line
+    else if are_too_many spans then header_fault FaultKind.TooManyIterations line
     else give (combinations spans)
 
 -- Those of the combinations for which the mask is true.

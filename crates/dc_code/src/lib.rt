@@ -13,6 +13,7 @@ pub use law::{
 pub use loop_law::{
     a_bad_iteration_ends_its_orders, a_clash_is_a_race,
     a_loop_that_goes_on_ends_alike_in_every_order, a_race_is_in_its_orders,
-    plain_blocks_are_framed, what_is_said_of_a_loop_holds_in_every_order,
+    a_visit_leaves_a_store_that_fits, plain_blocks_are_framed,
+    what_is_said_of_a_loop_holds_in_every_order,
 };
 pub use verdict::{Party, Race, Verdict};

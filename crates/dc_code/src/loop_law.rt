@@ -1,16 +1,20 @@
-ghost use Rattle.std.specs.Prelude.{◌≡◌, [], ◌∷◌, List, Some, ℤ, ℕ};
+ghost use Rattle.std.specs.Prelude.{◌≡◌, [], ◌∷◌, List, Some, ℤ, ℕ, true};
 ghost use Rattle.std.specs.List.Sorted.{IsPermutation};
 ghost use Rattle.dc_int.specs.declared.access.ElementId.{ElementId};
+ghost use Rattle.dc_int.specs.declared.variable.Shape.{Shape};
+ghost use Rattle.dc_int.specs.Shapes.{store_fits};
 ghost use Rattle.dc_int.specs.Store.{Store};
 ghost use Rattle.dc_code.specs.declared.verdict.Race.{Race};
+ghost use Rattle.dc_code.specs.Computation.{over};
 ghost use Rattle.dc_code.specs.EveryOrder.{SaysOfOrders};
-ghost use Rattle.dc_code.specs.Inner.{parts_with};
-ghost use Rattle.dc_code.specs.Laws.{HasPlainBlocks, IsFramed, DiffersAtRead, TouchesOwn, HoldsOwn, EndWell, alone_runs, EndsAt, BeginsWithRace, NamesIterations, TellsRace, NothingWrong, EndsAlike};
-ghost use Rattle.dc_code.specs.Loops.{Form, Parts, order};
+ghost use Rattle.dc_code.specs.Inner.{Rule, parts_with};
+ghost use Rattle.dc_code.specs.Laws.{HasPlainBlocks, IsFramed, DiffersAtRead, KeepLocality, MatchesShapes, KeepsFitting, DefinesFitting, EndWell, alone_runs, EndsAt, BeginsWithRace, NamesIterations, TellsRace, NothingWrong, EndsAlike};
+ghost use Rattle.dc_code.specs.Loops.{Form, Copies, Parts, opened, iterations_of, order};
 ghost use Rattle.dc_code.specs.Pairs.{first_clash};
 ghost use Rattle.dc_code.specs.Passages.{Entering};
 ghost use Rattle.dc_code.specs.Troubles.{Trouble};
 ghost use Rattle.dc_code.specs.Verdicts.{verdict, go_on, in_iteration, race};
+ghost use Rattle.dc_code.specs.Visits.{visited};
 
 /// A loop whose blocks hold no loop is framed: what an iteration does depends on the elements of which it
 /// has exposed reads and on those that LOCAL_INIT entities copy, and two of its runs differ first at a read.
@@ -41,12 +45,12 @@ pub fn a_race_is_in_its_orders()
 /// Where each iteration, alone, ends well and an element clashes, the verdict is a race. So a loop goes on
 /// where each iteration ends well and no element clashes, and only there.
 pub fn a_clash_is_a_race()
-    ensures race { (parts : Parts) (store : Store) → IsFramed parts → DiffersAtRead parts → TouchesOwn parts store
-        → (iterations : List (List ℤ)) → EndWell parts store iterations
+    ensures race { (parts : Parts) (store : Store) → IsFramed parts → DiffersAtRead parts
+        → (iterations : List (List ℤ)) → KeepLocality parts store iterations → EndWell parts store iterations
         → (x : ElementId) → first_clash parts.form.known.locality store (alone_runs parts store iterations) ≡ Some x
         → TellsRace (verdict parts store iterations) }
-    ensures only { (parts : Parts) (store : Store) → IsFramed parts → DiffersAtRead parts → TouchesOwn parts store
-        → (iterations : List (List ℤ)) → verdict parts store iterations ≡ go_on → NothingWrong parts store iterations }
+    ensures only { (parts : Parts) (store : Store) → IsFramed parts → DiffersAtRead parts
+        → (iterations : List (List ℤ)) → KeepLocality parts store iterations → verdict parts store iterations ≡ go_on → NothingWrong parts store iterations }
     ensures goes_on { (parts : Parts) (store : Store) (iterations : List (List ℤ))
         → NothingWrong parts store iterations → verdict parts store iterations ≡ go_on }
 {}
@@ -55,8 +59,9 @@ pub fn a_clash_is_a_race()
 /// the entries that it makes alone, no two break the restriction of an element of the store, and the loop
 /// ends with the same store as in ascending order.
 pub fn a_loop_that_goes_on_ends_alike_in_every_order()
-    ensures { (parts : Parts) (store : Store) → IsFramed parts → DiffersAtRead parts → TouchesOwn parts store → HoldsOwn parts.form.known store
-        → (iterations : List (List ℤ)) → verdict parts store iterations ≡ go_on
+    ensures { (parts : Parts) (store : Store) → IsFramed parts → DiffersAtRead parts
+        → (shapes : List Shape) → MatchesShapes parts.form.known shapes → store_fits shapes store ≡ true
+        → (iterations : List (List ℤ)) → KeepLocality parts store iterations → verdict parts store iterations ≡ go_on
         → (ordered : List (List ℤ)) → IsPermutation iterations ordered → EndsAlike parts store iterations ordered }
 {}
 
@@ -64,6 +69,16 @@ pub fn a_loop_that_goes_on_ends_alike_in_every_order()
 /// order ends with the one store behind it; an iteration that doesn't end well ends each order that it
 /// begins; and two that race break the restriction of the named element in each order that they begin.
 pub fn what_is_said_of_a_loop_holds_in_every_order()
-    ensures { (loop : Parts) (turns : ℕ) (store : Store) → IsFramed loop → DiffersAtRead loop → TouchesOwn loop store → HoldsOwn loop.form.known store
-        → SaysOfOrders loop turns store }
+    ensures { (loop : Parts) (turns : ℕ) (store : Store) → IsFramed loop → DiffersAtRead loop
+        → (shapes : List Shape) → MatchesShapes loop.form.known shapes → store_fits shapes store ≡ true
+        → KeepLocality loop store (iterations_of (over store (opened loop.form turns)).reached) → SaysOfOrders loop turns store }
+{}
+
+/// A visit of a loop keeps the invariant of stores, that they fit the declared variables, where its iterations
+/// do; and a loop's iterations do so where its blocks hold no loop and define values that fit.
+pub fn a_visit_leaves_a_store_that_fits()
+    ensures visit { (shapes : List Shape) (rule : Rule) (loop : Parts) (turns : ℕ) (store : Store) → MatchesShapes loop.form.known shapes
+        → KeepsFitting shapes loop → store_fits shapes store ≡ true → store_fits shapes (visited rule loop turns store).store ≡ true }
+    ensures blocks { (shapes : List Shape) (enter : Entering) (form : Form) → HasPlainBlocks form
+        → ((copies : Copies) (at : List ℤ) → DefinesFitting shapes (form.block copies at)) → KeepsFitting shapes (parts_with enter form) }
 {}

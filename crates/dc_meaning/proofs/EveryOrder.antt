@@ -3,15 +3,22 @@ use Rattle.std.proofs.Common.{◌≡◌, ℕ, suc, true, List, [], map, All, Opt
 use Rattle.std.specs.Prelude.{ℤ, slice_get}
 use Rattle.std.specs.List.{list_any}
 use Rattle.dc_int.specs.declared.variable.Locality.{Locality}
+use Rattle.dc_int.specs.declared.variable.Shape.{Shape}
+use Rattle.dc_int.specs.Shapes.{store_fits}
 use Rattle.dc_int.specs.Store.{Store, value_at, same_element}
+use Rattle.dc_code.specs.Computation.{over}
 use Rattle.dc_code.specs.EveryOrder.{SaysOfOrders}
 use Rattle.dc_code.specs.Inner.{judging, parts, inner, parts_with, greatest_depth}
-use Rattle.dc_code.specs.Laws.{HasPlainBlocks, TouchesOwn, HoldsOwn, IsOwn, may_touch}
-use Rattle.dc_code.specs.Loops.{Form, Copies, Passage}
+use Rattle.dc_code.specs.Laws.{HasPlainBlocks, KeepsLocality, IsCombinable, MatchesShapes, KeepsFitting, may_touch}
+use Rattle.dc_code.specs.Loops.{Form, Copies, Passage, opened, iterations_of}
 use Rattle.dc_code.specs.Passages.{Entering}
 use Rattle.dc_code.specs.Troubles.{Slots, Computing}
+use Rattle.dc_code.specs.Visits.{visited}
 use Rattle.dc_code.proofs.EveryOrder.{says-of-orders}
+use Rattle.dc_code.proofs.Fitting.{plain-fits, visited-fits}
+use Rattle.dc_code.proofs.Keeping.{all-keep}
 use Rattle.dc_code.proofs.Passages.{plain-framed, plain-differs, through-over}
+use Rattle.dc_code.proofs.Reduced.{HoldsCombinable}
 use Rattle.dc_tree.specs.declared.symbols.Symbol.{Symbol}
 use Rattle.dc_tree.specs.Blocks.{Line, Items, Source}
 use Rattle.dc_tree.specs.Entities.{Scope, entity, main_scope}
@@ -22,7 +29,7 @@ use Rattle.dc_meaning.specs.Execution.{exec_all}
 use Rattle.dc_meaning.specs.Plainly.{plain}
 use Rattle.dc_meaning.specs.Programs.{surroundings, program_forms}
 use Rattle.dc_meaning.proofs.Looping.{small-concurrent, IsLoop, LoopAt, scope-is, copies-form}
-use Rattle.dc_meaning.proofs.Own.{Any, AnyElement, any-own, Only, only-quiet, only-contributes, block-own, frame-only}
+use Rattle.dc_meaning.proofs.Own.{Any, AnyElement, AreDefault, any-own, Only, only-quiet, only-contributes, only-defines, block-own, frame-only}
 use Rattle.dc_meaning.proofs.Passing.{form-is, loops-in, found-at}
 use Rattle.dc_meaning.proofs.Visitable.{all-plain}
 
@@ -70,22 +77,39 @@ module _ (symbols : List Symbol) (source : Source) (small : is_small_program sym
   abbrev enter : Entering
   enter inside left slots store orders = inner judging (parts judging (program_forms symbols source turns) 63 inside slots) left store orders
 
-  touches-own : (store : Store) → TouchesOwn (parts_with enter form) store
-  touches-own store = record {
-    allowed = λ at x touched. ap (λ (locality : ℕ → Locality). may_touch (locality x.variable)) form-plain.locality;
-    apart = λ at x touched. ap (list_any (same_element x)) form-plain.copied;
-    contributed = λ at.
+  keeps-locality : (store : Store) (at : List ℤ) → KeepsLocality (parts_with enter form) store at
+  keeps-locality store at = record {
+    allowed = λ x touched. ap (λ (locality : ℕ → Locality). may_touch (locality x.variable)) form-plain.locality;
+    apart = λ x touched. ap (list_any (same_element x)) form-plain.copied;
+    contributed =
         let block : Computing ℕ = form.block (map (value_at store) form.copied) at in
-        subst (λ (passage : Passage). All (IsOwn form.known) passage.entries)
+        subst (λ (passage : Passage). All (IsCombinable form.known) passage.entries)
         (sym (through-over enter store [] block (never-pauses (map (value_at store) form.copied) at)))
         (only-contributes AnyElement Any form.known store block (form-plain.only (map (value_at store) form.copied) at));
   }
 
-  holds-own : (store : Store) → HoldsOwn form.known store
-  holds-own store = λ x op value reduces has.
+  holds-combinable : (store : Store) → HoldsCombinable form.known store
+  holds-combinable store = λ x op value reduces has.
       let plainly : form.known.locality x.variable ≡ Locality.Plain = ap (λ (locality : ℕ → Locality). locality x.variable) form-plain.locality in
       absurd (let no : Locality.Plain ≡ Locality.Reduce op = sym plainly ∙ reduces in cc)
 
+  loop-fits : (shapes : List Shape) → AreDefault shapes → KeepsFitting shapes (parts_with enter form)
+  loop-fits shapes all =
+      plain-fits shapes enter form never-pauses (λ copies at. only-defines AnyElement Any shapes all (form.block copies at) (form-plain.only copies at))
+
+  no-reduction : (shapes : List Shape) → MatchesShapes form.known shapes
+  no-reduction shapes = record {
+    reduces = λ variable op shape reduces declared.
+        let plainly : form.known.locality variable ≡ Locality.Plain = ap (λ (locality : ℕ → Locality). locality variable) form-plain.locality in
+        absurd (let no : Locality.Plain ≡ Locality.Reduce op = sym plainly ∙ reduces in cc);
+  }
+
+  -- A visit leaves a store that fits INTEGER variables.
+  pub visit-fits : (shapes : List Shape) → AreDefault shapes → (left : ℕ) (store : Store) → store_fits shapes store ≡ true
+      → store_fits shapes (visited judging (parts judging (program_forms symbols source turns) greatest_depth number around) left store).store ≡ true
+  visit-fits shapes all left store fits = visited-fits shapes (parts_with enter form) (no-reduction shapes) (loop-fits shapes all) judging left store fits
+
   pub loop-says : (left : ℕ) (store : Store) → SaysOfOrders (parts judging (program_forms symbols source turns) greatest_depth number around) left store
   loop-says left store =
-      says-of-orders (parts_with enter form) store (plain-framed enter form never-pauses) (plain-differs enter form never-pauses) (touches-own store) (holds-own store) left
+      says-of-orders (parts_with enter form) store (plain-framed enter form never-pauses) (plain-differs enter form never-pauses) (holds-combinable store) left
+      (all-keep (KeepsLocality (parts_with enter form) store) (iterations_of (over store (opened form left)).reached) (keeps-locality store))

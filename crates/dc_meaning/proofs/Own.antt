@@ -1,6 +1,6 @@
 -- What a block of today's form does is to elements of its variables, within their bounds, without a pause and
 -- without a contribution.
-use Rattle.std.proofs.Common.{◌≡◌, ◌<◌, ◌≤◌, ◌+◌, ◌-◌, ◌*◌, ℕ, zero, suc, Bool, true, false, ◌&&◌, ◌||◌, List, [], ◌∷◌, All, Option, Some, None, refl, sym, subst, arith}
+use Rattle.std.proofs.Common.{◌≡◌, ◌<◌, ◌≤◌, ◌+◌, ◌-◌, ◌*◌, ℕ, zero, suc, Bool, true, false, ◌&&◌, ◌||◌, List, [], ◌∷◌, All, Option, Some, None, refl, sym, ◌∙◌, subst, arith}
 use Rattle.std.proofs.lemmas.Bool.{and_parts, false≢true, leb-true}
 use Rattle.std.proofs.lemmas.Int.{ints}
 use Rattle.std.proofs.lemmas.List.Elements.{All-nil, All-cons}
@@ -11,14 +11,19 @@ use Rattle.std.specs.List.{range_with_len}
 use Rattle.dc_int.specs.declared.access.Access.{Access}
 use Rattle.dc_int.specs.declared.access.ElementId.{ElementId}
 use Rattle.dc_int.specs.declared.fault.FaultKind.{FaultKind}
+use Rattle.dc_int.specs.declared.kind.Kind.{Kind}
+use Rattle.dc_int.specs.declared.variable.Shape.{Shape}
 use Rattle.dc_int.specs.declared.operation.OpFault.{OpFault}
 use Rattle.dc_int.specs.Entries.{Reads, Defines, Undefines, accesses_of}
 use Rattle.dc_int.specs.Operations.{Outcome}
-use Rattle.dc_int.specs.Sorts.{fitted}
+use Rattle.dc_int.specs.Kinds.{value_fits}
+use Rattle.dc_int.specs.Shapes.{state_fits}
+use Rattle.dc_int.specs.Sorts.{Sort, whole, logical, fitted}
+use Rattle.dc_int.proofs.Fits.{wrapped-fits}
 use Rattle.dc_int.specs.Store.{Store, value_at, put_at, bounds_of, elements_in, extent, offset_in, joined_position, position_in, Bounds}
 use Rattle.dc_code.specs.Closing.{Localities}
 use Rattle.dc_code.specs.Computation.{Computation, give, fail, read, define, undefine, contribute, ask, pause, sequence, over}
-use Rattle.dc_code.specs.Laws.{NeverPauses, IsOwn}
+use Rattle.dc_code.specs.Laws.{NeverPauses, IsCombinable, DefinesFitting}
 use Rattle.dc_code.specs.Troubles.{Slots}
 use Rattle.dc_tree.specs.declared.token.Suffix.{Suffix}
 use Rattle.dc_tree.specs.Blocks as blocks
@@ -26,7 +31,7 @@ use Rattle.dc_tree.specs.Blocks.{Line, Source, Items, none, and_then, plain, bra
 use Rattle.dc_tree.specs.Entities.{Entity, outside, slots, dummy, constant, function, subroutine, reduction, nothing, Scope, entity}
 use Rattle.dc_tree.specs.Intrinsics.{intrinsic}
 use Rattle.dc_tree.specs.Operating.{joined_by}
-use Rattle.dc_tree.specs.SmallPrograms.{is_outside_scalar, is_vector, is_sum_or_product, is_small, is_small_subscript, is_small_target, is_small_assignment, is_small_block}
+use Rattle.dc_tree.specs.SmallPrograms.{is_default, is_outside_scalar, is_vector, is_sum_or_product, is_small, is_small_subscript, is_small_target, is_small_assignment, is_small_block}
 use Rattle.dc_tree.specs.Statements as statements
 use Rattle.dc_tree.specs.Statements.{Name, Target, Statement}
 use Rattle.dc_tree.specs.Syntax.{Tree, number, truth, chars, name, refer, paren, unary, binary, no_args, arg}
@@ -49,12 +54,17 @@ use Rattle.dc_meaning.proofs.Valuing.{scalar-value, vector-value, subscript-smal
 abbrev pub Any : {A : Type 0} → A → Type 0
 Any a = Unit {0}
 
--- Each access is of an element with P, there is no contribution and no pause, and Q holds of the result.
+-- A number of kind 4.
+abbrev pub IsDefault : ℤ → Type 0
+IsDefault z = value_fits Kind.K4 false z ≡ true
+
+-- Each access is of an element with P, each value that is defined is a number of kind 4, there is no
+-- contribution and no pause, and Q holds of the result.
 abbrev pub Only : {E T A : Type 0} → (ElementId → Type 0) → (A → Type 0) → Computation E T A → Type 0
 Only P Q (give a) = Q a
 Only P Q (fail trouble) = Unit {0}
 Only P Q (read x line rest) = P x × ((state : Option ℤ) → Only P Q (rest state))
-Only P Q (define x value line rest) = P x × Only P Q rest
+Only P Q (define x value line rest) = P x × IsDefault value × Only P Q rest
 Only P Q (undefine x line rest) = P x × Only P Q rest
 Only P Q (contribute x op value rest) = ⊥
 Only P Q (ask variable rest) = (bounds : Option Bounds) → Only P Q (rest bounds)
@@ -64,7 +74,7 @@ only-then : {E T A B : Type 0} (P : ElementId → Type 0) (Q : A → Type 0) (R 
 only-then P Q R (give a) next own later = later a own
 only-then P Q R (fail trouble) next own later = tt
 only-then P Q R (read x line rest) next own later = (own.0, λ state. only-then P Q R (rest state) next (own.1 state) later)
-only-then P Q R (define x value line rest) next own later = (own.0, only-then P Q R rest next own.1 later)
+only-then P Q R (define x value line rest) next own later = (own.0, own.1, only-then P Q R rest next own.2 later)
 only-then P Q R (undefine x line rest) next own later = (own.0, only-then P Q R rest next own.1 later)
 only-then P Q R (contribute x op value rest) next own later = absurd own
 only-then P Q R (ask variable rest) next own later = λ bounds. only-then P Q R (rest bounds) next (own bounds) later
@@ -78,7 +88,7 @@ only-made P Q store (fail trouble) own k access e = absurd (none-some access e)
 only-made P Q store (read x line rest) own zero access e = subst (λ (a : Access). P a.element) (same_Some _ access e) own.0
 only-made P Q store (read x line rest) own (suc k) access e = only-made P Q store (rest (value_at store x)) (own.1 (value_at store x)) k access e
 only-made P Q store (define x value line rest) own zero access e = subst (λ (a : Access). P a.element) (same_Some _ access e) own.0
-only-made P Q store (define x value line rest) own (suc k) access e = only-made P Q (put_at store x (Some value)) rest own.1 k access e
+only-made P Q store (define x value line rest) own (suc k) access e = only-made P Q (put_at store x (Some value)) rest own.2 k access e
 only-made P Q store (undefine x line rest) own zero access e = subst (λ (a : Access). P a.element) (same_Some _ access e) own.0
 only-made P Q store (undefine x line rest) own (suc k) access e = only-made P Q (put_at store x None) rest own.1 k access e
 only-made P Q store (contribute x op value rest) own k access e = absurd own
@@ -90,7 +100,7 @@ pub only-quiet : {E T A : Type 0} (P : ElementId → Type 0) (Q : A → Type 0) 
 only-quiet P Q (give a) own = tt
 only-quiet P Q (fail trouble) own = tt
 only-quiet P Q (read x line rest) own = λ state. only-quiet P Q (rest state) (own.1 state)
-only-quiet P Q (define x value line rest) own = only-quiet P Q rest own.1
+only-quiet P Q (define x value line rest) own = only-quiet P Q rest own.2
 only-quiet P Q (undefine x line rest) own = only-quiet P Q rest own.1
 only-quiet P Q (contribute x op value rest) own = absurd own
 only-quiet P Q (ask variable rest) own = λ bounds. only-quiet P Q (rest bounds) (own bounds)
@@ -98,23 +108,79 @@ only-quiet P Q (pause event rest) own = absurd own
 
 -- and makes no contribution but of its own reductions
 pub only-contributes : {E T A : Type 0} (P : ElementId → Type 0) (Q : A → Type 0) (known : Localities) (store : Store) (c : Computation E T A) → Only P Q c
-    → All (IsOwn known) (over store c).entries
-only-contributes P Q known store (give a) own = All-nil (IsOwn known)
-only-contributes P Q known store (fail trouble) own = All-nil (IsOwn known)
+    → All (IsCombinable known) (over store c).entries
+only-contributes P Q known store (give a) own = All-nil (IsCombinable known)
+only-contributes P Q known store (fail trouble) own = All-nil (IsCombinable known)
 only-contributes P Q known store (read x line rest) own =
-    All-cons (IsOwn known) (Reads x line) (over store (rest (value_at store x))).entries tt (only-contributes P Q known store (rest (value_at store x)) (own.1 (value_at store x)))
+    All-cons (IsCombinable known) (Reads x line) (over store (rest (value_at store x))).entries tt (only-contributes P Q known store (rest (value_at store x)) (own.1 (value_at store x)))
 only-contributes P Q known store (define x value line rest) own =
-    All-cons (IsOwn known) (Defines x value line) (over (put_at store x (Some value)) rest).entries tt (only-contributes P Q known (put_at store x (Some value)) rest own.1)
+    All-cons (IsCombinable known) (Defines x value line) (over (put_at store x (Some value)) rest).entries tt (only-contributes P Q known (put_at store x (Some value)) rest own.2)
 only-contributes P Q known store (undefine x line rest) own =
-    All-cons (IsOwn known) (Undefines x line) (over (put_at store x None) rest).entries tt (only-contributes P Q known (put_at store x None) rest own.1)
+    All-cons (IsCombinable known) (Undefines x line) (over (put_at store x None) rest).entries tt (only-contributes P Q known (put_at store x None) rest own.1)
 only-contributes P Q known store (contribute x op value rest) own = absurd own
 only-contributes P Q known store (ask variable rest) own = only-contributes P Q known store (rest (bounds_of store variable)) (own (bounds_of store variable))
 only-contributes P Q known store (pause event rest) own = absurd own
+
+-- The variables are INTEGER of kind 4.
+abbrev pub AreDefault : List Shape → Type 0
+AreDefault shapes = (variable : ℕ) (shape : Shape) → slice_get shapes variable ≡ Some shape → (shape.kind ≡ Kind.K4) × (shape.logical ≡ false)
+
+default-fits : (shapes : List Shape) → AreDefault shapes → (x : ElementId) (value : ℤ) → IsDefault value → state_fits shapes x (Some value) ≡ true
+default-fits shapes all x value fits = by (slice_get shapes x.variable) refl
+  where
+    by : (found : Option Shape) → slice_get shapes x.variable ≡ found → state_fits shapes x (Some value) ≡ true
+    by None is = rw is refl
+    by (Some shape) is = let same = all x.variable shape is in rw is ((λ i. value_fits (same.0 i) (same.1 i) value) ∙ fits)
+
+-- and defines values that fit such variables
+pub only-defines : {E T A : Type 0} (P : ElementId → Type 0) (Q : A → Type 0) (shapes : List Shape) → AreDefault shapes → (c : Computation E T A) → Only P Q c → DefinesFitting shapes c
+only-defines P Q shapes all (give a) own = tt
+only-defines P Q shapes all (fail trouble) own = tt
+only-defines P Q shapes all (read x line rest) own = λ state fits. only-defines P Q shapes all (rest state) (own.1 state)
+only-defines P Q shapes all (define x value line rest) own = (default-fits shapes all x value own.1, only-defines P Q shapes all rest own.2)
+only-defines P Q shapes all (undefine x line rest) own = only-defines P Q shapes all rest own.1
+only-defines P Q shapes all (contribute x op value rest) own = absurd own
+only-defines P Q shapes all (ask variable rest) own = λ bounds. only-defines P Q shapes all (rest bounds) (own bounds)
+only-defines P Q shapes all (pause event rest) own = absurd own
 
 -- ---- acts
 
 pub record Own {A : Type 0} (P : ElementId → Type 0) (Q : A → Type 0) (act : Act A) : Type 0 where
   pub holds : (state : State) → Only P (λ w. Q w.0) (act state)
+
+-- What is stored in the variable is a number of kind 4.
+abbrev TakesDefault : Entity → Type 0
+TakesDefault e = (given : ℤ) → IsDefault (fitted (sort_of_entity e) given)
+
+sort-takes : (sort : Sort) → is_default sort ≡ true → (given : ℤ) → IsDefault (fitted sort given)
+sort-takes (whole Kind.K4) is given = wrapped-fits Kind.K4 given
+sort-takes (whole Kind.K1) is given = cc
+sort-takes (whole Kind.K2) is given = cc
+sort-takes (whole Kind.K8) is given = cc
+sort-takes logical is given = cc
+
+scalar-takes : (e : Entity) → is_outside_scalar e ≡ true → TakesDefault e
+scalar-takes (outside variable sort []) is = sort-takes sort is
+scalar-takes (outside variable sort (dimension ∷ bounds)) is = cc
+scalar-takes (slots group sort bounds) is = cc
+scalar-takes (dummy place sort) is = cc
+scalar-takes (constant sort z) is = cc
+scalar-takes (function procedure sort) is = cc
+scalar-takes (subroutine procedure intents) is = cc
+scalar-takes (reduction variable op sort bounds) is = cc
+scalar-takes nothing is = cc
+
+vector-takes : (e : Entity) → is_vector e ≡ true → TakesDefault e
+vector-takes (outside variable sort []) is = cc
+vector-takes (outside variable sort (dimension ∷ [])) is = sort-takes sort is
+vector-takes (outside variable sort (dimension ∷ second ∷ bounds)) is = cc
+vector-takes (slots group sort bounds) is = cc
+vector-takes (dummy place sort) is = cc
+vector-takes (constant sort z) is = cc
+vector-takes (function procedure sort) is = cc
+vector-takes (subroutine procedure intents) is = cc
+vector-takes (reduction variable op sort bounds) is = cc
+vector-takes nothing is = cc
 
 abbrev OwnPlace : (ElementId → Type 0) → Place → Type 0
 OwnPlace P (outer x) = P x
@@ -198,9 +264,9 @@ module _ (P : ElementId → Type 0) where
   load-own line (outer x) own = record { holds = λ state. (own, λ read. tt) }
   load-own line (in_frame frame group position) own = record { holds = λ state. tt }
 
-  store-own : (line : ℕ) (place : Place) (z : ℤ) → OwnPlace P place → Own P Any (acts.store line place z)
-  store-own line (outer x) z own = record { holds = λ state. (own, tt) }
-  store-own line (in_frame frame group position) z own = record { holds = λ state. tt }
+  store-own : (line : ℕ) (place : Place) (z : ℤ) → IsDefault z → OwnPlace P place → Own P Any (acts.store line place z)
+  store-own line (outer x) z fits own = record { holds = λ state. (own, fits, tt) }
+  store-own line (in_frame frame group position) z fits own = record { holds = λ state. tt }
 
   required-own : (line : ℕ) (given : Option ℤ) → Own P Any (required line given)
   required-own line (Some z) = just-own z tt
@@ -251,12 +317,12 @@ module _ (P : ElementId → Type 0) where
   scalar-places line (reduction variable op sort bounds) is own = cc
   scalar-places line nothing is own = cc
 
-  each-store : (line : ℕ) (z : ℤ) (places : List Place) → OwnPlaces P places → Own P Any (for_each (λ place. acts.store line place z) places)
-  each-store line z [] own = just-own [] tt
-  each-store line z (place ∷ places) own = both-own {Q = Any} (store-own line place z own.0) (λ b any. both-own {Q = Any} (each-store line z places own.1) (λ bs more. just-own (b ∷ bs) tt))
+  each-store : (line : ℕ) (z : ℤ) (places : List Place) → IsDefault z → OwnPlaces P places → Own P Any (for_each (λ place. acts.store line place z) places)
+  each-store line z [] fits own = just-own [] tt
+  each-store line z (place ∷ places) fits own = both-own {Q = Any} (store-own line place z fits own.0) (λ b any. both-own {Q = Any} (each-store line z places fits own.1) (λ bs more. just-own (b ∷ bs) tt))
 
-  stored-own : (line : ℕ) (variable : Entity) (given : ℤ) (places : List Place) → OwnPlaces P places → Own P Any (stored line variable given places)
-  stored-own line variable given places own = both-own {Q = Any} (each-store line (fitted (sort_of_entity variable) given) places own) (λ done any. just-own on tt)
+  stored-own : (line : ℕ) (variable : Entity) (given : ℤ) (places : List Place) → TakesDefault variable → OwnPlaces P places → Own P Any (stored line variable given places)
+  stored-own line variable given places takes own = both-own {Q = Any} (each-store line (fitted (sort_of_entity variable) given) places (takes given) own) (λ done any. just-own on tt)
 
   settled-own : (line : ℕ) (outcome : Outcome) → Own P Any (settled line outcome)
   settled-own line (Ok z) = just-own z tt
@@ -309,13 +375,25 @@ module _ (P : ElementId → Type 0) (scope : Scope) (own : (text : Name) → Own
       (λ subscripts any. both-own P {Q = OwnPlace P} (element-own P line (entity scope text) subscripts (vector-placed (entity scope text) both.0) (own text)) (λ place owned. just-own P (place ∷ []) (owned, tt)))
   places-own call line text (Some (t ∷ second ∷ rest)) e = cc
 
+  target-takes : (text : Name) (subscripts : Option (List Tree)) → is_small_target scope false (record { name = text; subscripts = subscripts }) ≡ true
+      → TakesDefault (entity scope text)
+  target-takes text None e = scalar-takes (entity scope text) (first-or (is_outside_scalar (entity scope text)) e)
+    where
+      first-or : (a : Bool) → (a || false) ≡ true → a ≡ true
+      first-or true e = refl
+      first-or false e = e
+  target-takes text (Some []) e = cc
+  target-takes text (Some (t ∷ [])) e = vector-takes (entity scope text) (and_parts (is_vector (entity scope text)) (is_small_subscript scope t) e).0
+  target-takes text (Some (t ∷ second ∷ rest)) e = cc
+
   assignment-own : (call : Callee) (line : ℕ) (target : Target) (t : Tree) → (is_small_target scope false target && is_small scope t) ≡ true
       → Own P Any (assignment scope call line target t (entity scope target.name))
   assignment-own call line target t e =
       let both = and_parts (is_small_target scope false target) (is_small scope t) e in
       own-as P (assignment-is scope call line target t (entity scope target.name) (target-placed scope target.name target.subscripts both.0))
       (both-own P {Q = Any} {next = assigned scope call line (entity scope target.name) target.subscripts} (value-own call line t both.1)
-      (λ given any. both-own P {Q = OwnPlaces P} (places-own call line target.name target.subscripts both.0) (stored-own P line (entity scope target.name) given)))
+      (λ given any. both-own P {Q = OwnPlaces P} (places-own call line target.name target.subscripts both.0)
+      (λ places. stored-own P line (entity scope target.name) given places (target-takes target.name target.subscripts both.0))))
 
   -- ---- blocks
 

@@ -30,7 +30,8 @@ abbrev pub checked_span : ℕ → Span → Act Span
 checked_span line span = if is_equal span.step (pos 0) then wrong FaultKind.StepZero line else just span
 
 -- The limits and the step of an index or a DO variable of this sort: evaluated in this order, wrapped to
--- its kind, and a step of zero is a fault.
+-- its kind, and a step of zero is a fault, here before a further index is evaluated. dc_code finds the same
+-- of any header that leaves one.
 abbrev pub span_of : Scope → Callee → ℕ → Sort → Ranging → Act Span
 span_of scope call line sort ranging = do
   first ← value scope call line ranging.first

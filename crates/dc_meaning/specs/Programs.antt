@@ -10,7 +10,7 @@ use Rattle.dc_tree.specs.declared.symbols.Symbol.{Symbol}
 use Rattle.dc_tree.specs.Blocks.{Source}
 use Rattle.dc_tree.specs.Entities.{symbols_in, main_scope}
 use Rattle.dc_meaning.specs.Calls.{callee, greatest_call_depth, procedures_from, undefined_cells}
-use Rattle.dc_meaning.specs.Concurrent.{Outside, Surroundings}
+use Rattle.dc_meaning.specs.Concurrent.{Outside, Concurrent, Surroundings}
 use Rattle.dc_meaning.specs.Execution.{exec_all}
 use Rattle.dc_meaning.specs.Headers.{inside_frame}
 use Rattle.dc_meaning.specs.Numbering.{loops_of_all, forms_of}
@@ -53,7 +53,9 @@ abbrev pub main_computation : List Symbol → Source → ℕ → Computing Unit
 main_computation symbols source turns =
     inside_frame [] turns (exec_all (main_scope symbols) (surroundings symbols source turns).call 0 source.body) (λ flow left. tt)
 
--- Its loops, where each mask and each iteration has so many turns.
+-- Its DO CONCURRENT loops, by their numbers, where each mask and each iteration has so many turns.
+abbrev pub program_loops : List Symbol → Source → ℕ → List Concurrent
+program_loops symbols source turns = loops_of_all (surroundings symbols source turns) (main_scope symbols) 0 source.body
+
 abbrev pub program_forms : List Symbol → Source → ℕ → Forms
-program_forms symbols source turns =
-    let within = surroundings symbols source turns in forms_of within (loops_of_all within (main_scope symbols) 0 source.body)
+program_forms symbols source turns = forms_of (surroundings symbols source turns) (program_loops symbols source turns)
