@@ -1,7 +1,8 @@
 -- What the reader of dc_tree builds here: a tree with its depth, unless it is too deep. A part that
 -- is too deep makes the whole too deep. It repeats the code; the answers don't speak of it.
-use Rattle.std.specs.Prelude.{ℕ, ◌+◌, max, Bool, nat_lt, nat_le, if◌then◌else◌, false, List, [], ◌∷◌, ◌++◌, Option, Some, None}
+use Rattle.std.specs.Prelude.{ℕ, ◌+◌, max, Bool, nat_lt, nat_le, if◌then◌else◌, false, List, [], ◌∷◌, ◌++◌, Option, Some, None, Result, Ok, Err}
 use Rattle.dc_tree.specs.declared.token.Mark.{Mark}
+use Rattle.dc_expr.specs.declared.reader.Miss.{Miss}
 use Rattle.dc_tree.specs.Syntax.{Tree, number, truth, name, refer, paren, unary, binary, args_from}
 use Rattle.dc_tree.specs.Grammar.{level}
 use Rattle.dc_tree.specs.Reader.{Building, Frame, behind_sign, behind_left}
@@ -64,3 +65,9 @@ abbrev pub applied : Frame Kept KeptArgs → Kept → Kept
 applied (behind_sign mark) value = kept_unary mark value
 applied (behind_left mark left) value = kept_binary mark left value
 applied frame value = value
+
+-- what was found at the end: nothing, a tree that is too deep, or a tree
+abbrev pub told_apart : Option Kept → Result Tree Miss
+told_apart None = Err Miss.Nothing
+told_apart (Some None) = Err Miss.Deep
+told_apart (Some (Some value)) = Ok value.0

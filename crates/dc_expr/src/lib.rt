@@ -6,9 +6,5 @@ mod measured;
 mod reader;
 mod stack;
 mod steps;
-mod words;
 
-pub use reader::parse_expr;
-
-#[cfg(test)]
-mod tests;
+pub use reader::{Miss, parse_expr, read_expr};

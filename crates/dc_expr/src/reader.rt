@@ -1,25 +1,44 @@
 //! Reading an expression, a token at a time.
 
-ghost use Rattle.std.specs.Prelude.{◌≡◌, IfOk, option_map};
+ghost use Rattle.std.specs.Prelude.{◌≡◌, IfOk};
 ghost use Rattle.dc_tree.specs.Syntax.{tree};
-ghost use Rattle.dc_tree.specs.Reader.{start, run, settled, finish, join, read_by};
-ghost use Rattle.dc_expr.specs.Answers.{Answers, Gives, breach, outcome};
-ghost use Rattle.dc_expr.specs.Limited.{limited};
+ghost use Rattle.dc_tree.specs.Reader.{reading, start, run, settled, finish, join};
+ghost use Rattle.dc_expr.specs.Answers.{Answers, Gives, IsRead, Reads, outcome, within};
+ghost use Rattle.dc_expr.specs.Limited.{limited, told_apart};
 ghost use Rattle.dc_expr.specs.Views.{kept, frames_of, state_of};
+ghost use Rattle.dc_expr.specs.declared.reader.Miss.{Miss};
 
 use crate::measured::{Measured, name};
-use crate::stack::Stack;
+use crate::stack::Pending;
 use crate::steps::{Progress, join, step};
-use dc_text::NoMemory;
-use dc_tree::{Expr, Fail, Refusal, Token};
+use dc_text::{NoMemory, Stack};
+use dc_tree::{Expr, Fail, Token};
 use std::alloc::Global;
 
 const NO_EXPRESSION: u8 = 11;
 
 const TOO_DEEP: u8 = 12;
 
-fn run(alloc: Global, stack: &mut Stack, tokens: &[Token]) -> Result<Progress, NoMemory>
-    ensures { IfOk result (λ p. state_of p stack.new ≡ run limited tokens.now (start (frames_of stack.old))) }
+/// Why tokens give no expression: no tree spells them, or the tree that does is deeper than 256,
+/// or memory was wanting.
+#[derive(Clone, Copy, Debug, PartialEq, Eq)]
+pub enum Miss {
+    Nothing,
+    Deep,
+    NoMemory,
+}
+
+impl From<NoMemory> for Miss {
+    ghost from_gives = { λ _ e. e ≡ Miss.NoMemory };
+
+    fn from(_error: NoMemory) -> Miss {
+        Miss::NoMemory
+    }
+}
+
+fn run(alloc: Global, stack: &mut Stack<Pending>, tokens: &[Token]) -> Result<Progress, NoMemory>
+    ensures { IfOk result (λ p.
+        state_of p stack.new ≡ run limited tokens.now (start (frames_of stack.old))) }
 {
     let mut progress = Progress::Start;
     for token in tokens {
@@ -29,46 +48,39 @@ fn run(alloc: Global, stack: &mut Stack, tokens: &[Token]) -> Result<Progress, N
 }
 
 /// The value alone, unless something in front of it is open.
-fn settled(
-    alloc: Global,
-    stack: &mut Stack,
-    value: Option<Measured>,
-) -> Result<Option<Option<Measured>>, NoMemory>
-    ensures { IfOk result (λ found. option_map kept found ≡ settled (join limited 0 (frames_of stack.old) (kept value))) }
+fn settled(alloc: Global, stack: &mut Stack<Pending>, value: Option<Measured>) -> Result<Expr, Miss>
+    ensures { let joined = join limited 0 (frames_of stack.old) (kept value) in
+        Reads tree (told_apart (settled joined)) result }
 {
     let value = join(alloc, stack, 0, value)?;
-    match stack.pop() {
-        None => Ok(Some(value)),
-        Some(_) => Ok(None),
+    if stack.is_empty() {
+        match value {
+            Some(whole) => Ok(whole.tree),
+            None => Err(Miss::Deep),
+        }
+    } else {
+        Err(Miss::Nothing)
     }
 }
 
-fn finish(
-    alloc: Global,
-    stack: &mut Stack,
-    progress: Progress,
-) -> Result<Option<Option<Measured>>, NoMemory>
-    ensures { IfOk result (λ found. option_map kept found ≡ finish limited (state_of progress stack.old)) }
+fn finish(alloc: Global, stack: &mut Stack<Pending>, progress: Progress) -> Result<Expr, Miss>
+    ensures { Reads tree (told_apart (finish limited (state_of progress stack.old))) result }
 {
     match progress {
         Progress::Named(word) => settled(alloc, stack, name(word)),
         Progress::Whole(value) => settled(alloc, stack, value),
-        _ => Ok(None),
+        _ => Err(Miss::Nothing),
     }
 }
 
-fn read(alloc: Global, tokens: &[Token]) -> Result<Option<Option<Measured>>, NoMemory>
-    ensures { IfOk result (λ found. option_map kept found ≡ read_by limited tokens.now) }
+/// The expression that the tokens spell, all of them.
+pub fn read_expr(alloc: Global, tokens: &[Token]) -> Result<Expr, Miss>
+    ensures answers { IsRead tokens.now result }
+    ensures reads { Reads tree (within (reading tokens.now)) result }
 {
     let mut stack = Stack::new(alloc);
     let progress = run(alloc, &mut stack, tokens)?;
     finish(alloc, &mut stack, progress)
-}
-
-fn refused(rule: u8, line: u32) -> Fail
-    ensures { result ≡ Fail.Refused (breach rule line) }
-{
-    Fail::Refused(Refusal { rule, line })
 }
 
 /// The expression that the tokens spell, all of them. They are refused by rule 11 where no tree
@@ -77,9 +89,10 @@ pub fn parse_expr(alloc: Global, line: u32, tokens: &[Token]) -> Result<Expr, Fa
     ensures answers { Answers line tokens.now result }
     ensures gives { Gives tree (outcome line tokens.now) result }
 {
-    match read(alloc, tokens)? {
-        Some(Some(whole)) => Ok(whole.tree),
-        Some(None) => Err(refused(TOO_DEEP, line)),
-        None => Err(refused(NO_EXPRESSION, line)),
+    match read_expr(alloc, tokens) {
+        Ok(expr) => Ok(expr),
+        Err(Miss::Nothing) => Err(Fail::refused(NO_EXPRESSION, line)),
+        Err(Miss::Deep) => Err(Fail::refused(TOO_DEEP, line)),
+        Err(Miss::NoMemory) => Err(Fail::NoMemory),
     }
 }

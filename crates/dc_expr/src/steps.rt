@@ -8,10 +8,9 @@ ghost use Rattle.dc_expr.specs.Views.{kept, frame_of, frames_of, state_of};
 
 use crate::marks::{is_binary, is_prefix, left_rank, level};
 use crate::measured::{Args, Measured, binary, name, number, paren, refer, truth, unary, with_arg};
-use crate::stack::{Pending, Stack};
-use crate::words::is_name;
-use dc_text::{DcList, DcText, NoMemory};
-use dc_tree::{Mark, Token};
+use crate::stack::{Pending, need, pop_operator};
+use dc_text::{DcList, DcText, NoMemory, Stack};
+use dc_tree::{Mark, Token, is_name};
 use std::alloc::Global;
 
 /// Where the reader stands: where an operand begins, behind a name and `(`, behind a name alone, or
@@ -42,30 +41,31 @@ fn applied(
 /// Joins a value with the operators of at least this rank that wait for it.
 pub(crate) fn join(
     alloc: Global,
-    stack: &mut Stack,
+    stack: &mut Stack<Pending>,
     least: u8,
     value: Option<Measured>,
 ) -> Result<Option<Measured>, NoMemory>
-    ensures { IfOk result (λ made. (frames_of stack.new, kept made) ≡ join limited least (frames_of stack.old) (kept value)) }
+    ensures { let joined = join limited least (frames_of stack.old) (kept value) in
+        IfOk result (λ made. (frames_of stack.new, kept made) ≡ joined) }
 {
     let mut value = value;
-    while let Some(part) = stack.pop_operator(least) {
+    while let Some(part) = pop_operator(stack, least) {
         value = applied(alloc, part, value)?;
     }
     Ok(value)
 }
 
-fn prefixed(stack: &mut Stack, mark: Mark) -> Result<Progress, NoMemory>
+fn prefixed(stack: &mut Stack<Pending>, mark: Mark) -> Result<Progress, NoMemory>
     ensures { IfOk result (λ p. state_of p stack.new ≡ prefixed mark (frames_of stack.old)) }
 {
-    if stack.need() > level(mark) {
+    if need(stack) > level(mark) {
         return Ok(Progress::Failed);
     }
     stack.push(Pending::Sign(mark))?;
     Ok(Progress::Start)
 }
 
-fn opened(stack: &mut Stack, mark: Mark) -> Result<Progress, NoMemory>
+fn opened(stack: &mut Stack<Pending>, mark: Mark) -> Result<Progress, NoMemory>
     ensures { IfOk result (λ p. state_of p stack.new ≡ opened limited mark (frames_of stack.old)) }
 {
     match mark {
@@ -79,8 +79,9 @@ fn opened(stack: &mut Stack, mark: Mark) -> Result<Progress, NoMemory>
     }
 }
 
-fn started_by_mark(stack: &mut Stack, mark: Mark) -> Result<Progress, NoMemory>
-    ensures { IfOk result (λ p. state_of p stack.new ≡ started_by_mark limited mark (frames_of stack.old)) }
+fn started_by_mark(stack: &mut Stack<Pending>, mark: Mark) -> Result<Progress, NoMemory>
+    ensures { let before = frames_of stack.old in
+        IfOk result (λ p. state_of p stack.new ≡ started_by_mark limited mark before) }
 {
     if is_prefix(mark) {
         prefixed(stack, mark)
@@ -90,8 +91,9 @@ fn started_by_mark(stack: &mut Stack, mark: Mark) -> Result<Progress, NoMemory>
 }
 
 /// A token where an operand begins.
-fn started(alloc: Global, stack: &mut Stack, token: &Token) -> Result<Progress, NoMemory>
-    ensures { IfOk result (λ p. state_of p stack.new ≡ started limited token.now (frames_of stack.old)) }
+fn started(alloc: Global, stack: &mut Stack<Pending>, token: &Token) -> Result<Progress, NoMemory>
+    ensures { let before = frames_of stack.old in
+        IfOk result (λ p. state_of p stack.new ≡ started limited token.now before) }
 {
     match token {
         Token::Word(word) if is_name(word.as_bytes()) => Ok(Progress::Named(word.copy(alloc)?)),
@@ -103,22 +105,28 @@ fn started(alloc: Global, stack: &mut Stack, token: &Token) -> Result<Progress, 
 
 fn operated(
     alloc: Global,
-    stack: &mut Stack,
+    stack: &mut Stack<Pending>,
     mark: Mark,
     value: Option<Measured>,
 ) -> Result<Progress, NoMemory>
-    ensures { IfOk result (λ p. state_of p stack.new ≡ operated mark (join limited (left_rank mark) (frames_of stack.old) (kept value))) }
+    ensures { let joined = join limited (left_rank mark) (frames_of stack.old) (kept value) in
+        IfOk result (λ p. state_of p stack.new ≡ operated mark joined) }
 {
     let left = join(alloc, stack, left_rank(mark), value)?;
-    if stack.need() > level(mark) {
+    if need(stack) > level(mark) {
         return Ok(Progress::Failed);
     }
     stack.push(Pending::Left { mark, left })?;
     Ok(Progress::Start)
 }
 
-fn closed(alloc: Global, stack: &mut Stack, value: Option<Measured>) -> Result<Progress, NoMemory>
-    ensures { IfOk result (λ p. state_of p stack.new ≡ closed limited (frames_of stack.old) (kept value)) }
+fn closed(
+    alloc: Global,
+    stack: &mut Stack<Pending>,
+    value: Option<Measured>,
+) -> Result<Progress, NoMemory>
+    ensures { let before = frames_of stack.old in
+        IfOk result (λ p. state_of p stack.new ≡ closed limited before (kept value)) }
 {
     match stack.pop() {
         Some(Pending::Bracket) => Ok(Progress::Whole(paren(alloc, value)?)),
@@ -130,8 +138,9 @@ fn closed(alloc: Global, stack: &mut Stack, value: Option<Measured>) -> Result<P
     }
 }
 
-fn separated(stack: &mut Stack, value: Option<Measured>) -> Result<Progress, NoMemory>
-    ensures { IfOk result (λ p. state_of p stack.new ≡ separated limited (frames_of stack.old) (kept value)) }
+fn separated(stack: &mut Stack<Pending>, value: Option<Measured>) -> Result<Progress, NoMemory>
+    ensures { let before = frames_of stack.old in
+        IfOk result (λ p. state_of p stack.new ≡ separated limited before (kept value)) }
 {
     match stack.pop() {
         Some(Pending::Reference { name, args, keyed }) => {
@@ -149,11 +158,12 @@ fn separated(stack: &mut Stack, value: Option<Measured>) -> Result<Progress, NoM
 
 fn ended(
     alloc: Global,
-    stack: &mut Stack,
+    stack: &mut Stack<Pending>,
     mark: Mark,
     value: Option<Measured>,
 ) -> Result<Progress, NoMemory>
-    ensures { IfOk result (λ p. state_of p stack.new ≡ ended limited mark (join limited 0 (frames_of stack.old) (kept value))) }
+    ensures { let joined = join limited 0 (frames_of stack.old) (kept value) in
+        IfOk result (λ p. state_of p stack.new ≡ ended limited mark joined) }
 {
     let value = join(alloc, stack, 0, value)?;
     match mark {
@@ -165,11 +175,13 @@ fn ended(
 
 fn followed_by_mark(
     alloc: Global,
-    stack: &mut Stack,
+    stack: &mut Stack<Pending>,
     mark: Mark,
     value: Option<Measured>,
 ) -> Result<Progress, NoMemory>
-    ensures { IfOk result (λ p. state_of p stack.new ≡ followed_by_mark limited mark (frames_of stack.old) (kept value)) }
+    ensures { let before = frames_of stack.old in
+        IfOk result
+        (λ p. state_of p stack.new ≡ followed_by_mark limited mark before (kept value)) }
 {
     if is_binary(mark) {
         operated(alloc, stack, mark, value)
@@ -181,11 +193,12 @@ fn followed_by_mark(
 /// A token behind a whole operand.
 fn followed(
     alloc: Global,
-    stack: &mut Stack,
+    stack: &mut Stack<Pending>,
     token: &Token,
     value: Option<Measured>,
 ) -> Result<Progress, NoMemory>
-    ensures { IfOk result (λ p. state_of p stack.new ≡ followed limited token.now (frames_of stack.old) (kept value)) }
+    ensures { let before = frames_of stack.old in
+        IfOk result (λ p. state_of p stack.new ≡ followed limited token.now before (kept value)) }
 {
     match token {
         Token::Mark(mark) => followed_by_mark(alloc, stack, *mark, value),
@@ -194,7 +207,7 @@ fn followed(
 }
 
 /// `=` behind a name.
-fn keyed_by(stack: &mut Stack, word: &DcText) -> Result<Progress, NoMemory>
+fn keyed_by(stack: &mut Stack<Pending>, word: &DcText) -> Result<Progress, NoMemory>
     ensures { IfOk result (λ p. state_of p stack.new ≡ keyed_by word.now (frames_of stack.old)) }
 {
     match stack.pop() {
@@ -218,11 +231,12 @@ fn keyed_by(stack: &mut Stack, word: &DcText) -> Result<Progress, NoMemory>
 
 fn after_name(
     alloc: Global,
-    stack: &mut Stack,
+    stack: &mut Stack<Pending>,
     token: &Token,
     word: DcText,
 ) -> Result<Progress, NoMemory>
-    ensures { IfOk result (λ p. state_of p stack.new ≡ after_name limited token.now (frames_of stack.old) word) }
+    ensures { let before = frames_of stack.old in
+        IfOk result (λ p. state_of p stack.new ≡ after_name limited token.now before word) }
 {
     match token {
         Token::Mark(Mark::Open) => Ok(Progress::Called(word)),
@@ -233,11 +247,12 @@ fn after_name(
 
 fn after_call(
     alloc: Global,
-    stack: &mut Stack,
+    stack: &mut Stack<Pending>,
     token: &Token,
     word: DcText,
 ) -> Result<Progress, NoMemory>
-    ensures { IfOk result (λ p. state_of p stack.new ≡ after_call limited token.now (frames_of stack.old) word) }
+    ensures { let before = frames_of stack.old in
+        IfOk result (λ p. state_of p stack.new ≡ after_call limited token.now before word) }
 {
     let args = Some(Args {
         list: DcList::new(alloc),
@@ -257,11 +272,12 @@ fn after_call(
 /// Reads one token.
 pub(crate) fn step(
     alloc: Global,
-    stack: &mut Stack,
+    stack: &mut Stack<Pending>,
     token: &Token,
     progress: Progress,
 ) -> Result<Progress, NoMemory>
-    ensures { IfOk result (λ p. state_of p stack.new ≡ step limited token.now (state_of progress stack.old)) }
+    ensures { let before = state_of progress stack.old in
+        IfOk result (λ p. state_of p stack.new ≡ step limited token.now before) }
 {
     match progress {
         Progress::Failed => Ok(Progress::Failed),

@@ -7,11 +7,12 @@ use Rattle.std.proofs.lemmas.List.Folds.{list_any-append}
 use Rattle.dc_tree.specs.declared.fail.Fail.{Fail}
 use Rattle.dc_tree.specs.declared.logical_lines.Logical.{Logical}
 use Rattle.dc_tree.specs.declared.token.Token.{Token}
+use Rattle.dc_tree.specs.Findings.{IsFirst, finding}
 use Rattle.dc_lexer.specs.Bytes.{past_blanks}
 use Rattle.dc_lexer.specs.Lexemes.{Lexeme}
 use Rattle.dc_lexer.specs.Readings.{IsLongest, BeginsWith}
 use Rattle.dc_lexer.specs.Tokens.{tokens_of, tokens_of_one, is_long, is_large}
-use Rattle.dc_lexer.specs.Answers.{BreaksRule8, BreaksRule9, BreaksRule10, Breaks, HasTokens, Answers}
+use Rattle.dc_lexer.specs.Answers.{BreaksRule8, BreaksRule9, BreaksRule10, Breaks, broken_in, HasTokens, Answers}
 use Rattle.dc_lexer.specs.Scan.{Finds, scan}
 use Rattle.dc_lexer.specs.Progress.{with_lexeme, Reached, Reads, finish}
 use Rattle.dc_lexer.specs.declared.found.Reading.{Reading}
@@ -89,20 +90,25 @@ least10 text keeps keeps_too other less broken =
       | inr more ↦ elim more [ inl nine ↦ keeps_too nine.1 | inr ten ↦ let e = ten.0 in absurd (omega (arith, e)) ]
     ]
 
+pub first-broken : (statement : Logical) (rule : ℕ) → Breaks rule statement.text → ((other : ℕ) → other < rule → Breaks other statement.text → ⊥)
+    → IsFirst (broken_in statement) (finding rule statement.line)
+first-broken statement rule broken least = record {
+  broken = (refl, broken);
+  no_earlier = λ other line less found. let same = found.0 in absurd (omega (arith, less, same));
+  no_lesser = λ other less found. least other less found.1;
+}
+
 finished : (statement : Logical) (reading : Reading) (long large : Bool) → reading.has_long ≡ long → reading.has_large ≡ large → Reached statement.text reading []
     → Answers statement (finish (Some reading) statement.line)
 finished statement reading true large long_is large_is reached =
     let broken : BreaksRule9 statement.text = record { lexemes = reached.lexemes; rest = []; front = reached.front; long = sym reached.long_is ∙ long_is } in
-    rw long_is (refl, record { broken = inr (inl (refl, broken)); least = least9 statement.text (keeps_rule8 statement.text reached.lexemes reached.front) })
+    rw long_is (first-broken statement 9 (inr (inl (refl, broken))) (least9 statement.text (keeps_rule8 statement.text reached.lexemes reached.front)))
 finished statement reading false true long_is large_is reached =
     let broken : BreaksRule10 statement.text = record { lexemes = reached.lexemes; rest = []; front = reached.front; large = sym reached.large_is ∙ large_is } in
+    let keeps = keeps_rule9 statement.text reached.lexemes reached.front (sym reached.long_is ∙ long_is) in
     rw long_is (
     rw large_is (
-      refl,
-      record {
-        broken = inr (inr (refl, broken));
-        least = least10 statement.text (keeps_rule8 statement.text reached.lexemes reached.front) (keeps_rule9 statement.text reached.lexemes reached.front (sym reached.long_is ∙ long_is));
-      },
+    first-broken statement 10 (inr (inr (refl, broken))) (least10 statement.text (keeps_rule8 statement.text reached.lexemes reached.front) keeps)
     )
     )
 finished statement reading false false long_is large_is reached =
@@ -122,7 +128,7 @@ pub answered : (statement : Logical) (reading : Option Reading) (result : Result
 answered statement reading result reads is = subst (λ (r : Result (List Token) Fail). Answers statement r) (sym is) (by_reading reading reads)
   where
     by_reading : (reading : Option Reading) → Reads statement.text reading → Answers statement (finish reading statement.line)
-    by_reading None broken = (refl, record { broken = inl (refl, broken); least = least8 statement.text })
+    by_reading None broken = first-broken statement 8 (inl (refl, broken)) (least8 statement.text)
     by_reading (Some reading) reached = finished statement reading reading.has_long reading.has_large refl refl reached
 
 -- ---- both answers at once are none

@@ -11,7 +11,7 @@ use Rattle.dc_lexer.specs.Readings.{BeginsNone, BeginsWith, AreLexemes}
 use Rattle.dc_lexer.specs.Answers.{BreaksRule8, BreaksRule9, BreaksRule10, HasTokens, Answers}
 use Rattle.dc_lexer.specs.Scan.{Finds, scan, scan_mark}
 use Rattle.dc_lexer.specs.declared.found.Scanned.{Scanned}
-use Rattle.dc_lexer.proofs.Answering.{least8}
+use Rattle.dc_lexer.proofs.Answering.{first-broken, least8}
 use Rattle.dc_lexer.proofs.Longest.{scan-finds}
 
 -- up to n lexemes of a text, and what is left behind them
@@ -124,10 +124,7 @@ Breaks-large = record { lexemes = number large_number ∷ word long_word ∷ [];
 
 Answers-all_three : Answers (record { line = 7; text = all_three }) (Err (Fail.Refused (record { rule = 8; line = 7 })))
 unfolding is_letter is_digit is_word_byte is_quote scan_mark
-Answers-all_three = (
-  refl,
-  record {
-    broken = inl (refl, record { lexemes = number large_number ∷ word long_word ∷ []; rest = codes ".5"; front = front-all_three; some = λ empty. cc; none = no_next (codes ".5") refl });
-    least = least8 all_three;
-  },
-)
+Answers-all_three =
+    let broken : BreaksRule8 all_three =
+    record { lexemes = number large_number ∷ word long_word ∷ []; rest = codes ".5"; front = front-all_three; some = λ empty. cc; none = no_next (codes ".5") refl } in
+    first-broken (record { line = 7; text = all_three }) 8 (inl (refl, broken)) (least8 all_three)

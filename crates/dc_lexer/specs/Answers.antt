@@ -1,9 +1,10 @@
 -- What the reader of tokens answers. The rules and their order are this project's own.
-use Rattle.std.specs.Prelude.{◌≡◌, ◌<◌, ◌≢◌, ◌⊎◌, ℕ, true, false, List, [], Result, Ok, Err}
+use Rattle.std.specs.Prelude.{◌≡◌, ◌≢◌, ◌⊎◌, ℕ, true, false, List, [], Result, Ok, Err}
 use Rattle.std.specs.List.{list_any}
 use Rattle.dc_tree.specs.declared.fail.Fail.{Fail}
 use Rattle.dc_tree.specs.declared.logical_lines.Logical.{Logical}
 use Rattle.dc_tree.specs.declared.token.Token.{Token}
+use Rattle.dc_tree.specs.Findings.{IsFirst}
 use Rattle.dc_lexer.specs.Lexemes.{Lexeme}
 use Rattle.dc_lexer.specs.Readings.{BeginsNone, BeginsWith, AreLexemes}
 use Rattle.dc_lexer.specs.Tokens.{tokens_of, is_long, is_large}
@@ -36,10 +37,9 @@ pub record BreaksRule10 (text : List ℕ) : Type 0 where
 abbrev pub Breaks : ℕ → List ℕ → Type 0
 Breaks rule text = ((rule ≡ 8) × BreaksRule8 text) ⊎ (((rule ≡ 9) × BreaksRule9 text) ⊎ ((rule ≡ 10) × BreaksRule10 text))
 
--- the least rule that the text breaks
-pub record IsLeastBroken (rule : ℕ) (text : List ℕ) : Type 0 where
-  pub broken : Breaks rule text
-  pub least : (other : ℕ) → other < rule → Breaks other text → ⊥
+-- A statement breaks rules on its own line alone.
+abbrev pub broken_in : Logical → ℕ → ℕ → Type 0
+broken_in statement rule line = (line ≡ statement.line) × Breaks rule statement.text
 
 -- The text has lexemes to its end, none of them passes a limit, and these are its tokens.
 pub record HasTokens (text : List ℕ) (tokens : List Token) : Type 0 where
@@ -52,5 +52,5 @@ pub record HasTokens (text : List ℕ) (tokens : List Token) : Type 0 where
 -- Want of memory may come at any time.
 abbrev pub Answers : Logical → Result (List Token) Fail → Type 0
 Answers statement (Ok tokens) = HasTokens statement.text tokens
-Answers statement (Err (Fail.Refused refusal)) = (refusal.line ≡ statement.line) × IsLeastBroken refusal.rule statement.text
+Answers statement (Err (Fail.Refused refusal)) = IsFirst (broken_in statement) refusal
 Answers statement (Err Fail.NoMemory) = Unit {0}

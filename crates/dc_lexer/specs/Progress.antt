@@ -2,6 +2,7 @@
 use Rattle.std.specs.Prelude.{◌≡◌, ◌||◌, ◌++◌, List, [], ℕ, Option, Some, None, Result, Ok, Err, if◌then◌else◌}
 use Rattle.std.specs.List.{list_any}
 use Rattle.dc_tree.specs.declared.fail.Fail.{Fail}
+use Rattle.dc_tree.specs.Findings.{finding}
 use Rattle.dc_tree.specs.declared.token.Token.{Token}
 use Rattle.dc_lexer.specs.Lexemes.{Lexeme}
 use Rattle.dc_lexer.specs.Readings.{BeginsWith}
@@ -27,8 +28,8 @@ Reads text None = BreaksRule8 text
 Reads text (Some reading) = Reached text reading []
 
 abbrev pub finish : Option Reading → ℕ → Result (List Token) Fail
-finish None line = Err (Fail.Refused (record { rule = 8; line = line }))
+finish None line = Err (Fail.Refused (finding 8 line))
 finish (Some reading) line =
-    if reading.has_long then Err (Fail.Refused (record { rule = 9; line = line }))
-    else (if reading.has_large then Err (Fail.Refused (record { rule = 10; line = line }))
+    if reading.has_long then Err (Fail.Refused (finding 9 line))
+    else (if reading.has_large then Err (Fail.Refused (finding 10 line))
     else Ok reading.tokens)

@@ -17,6 +17,3 @@ pub use law::{
     a_text_with_tokens_breaks_no_rule, an_open_literal_breaks_rule_8,
 };
 pub use statement::tokens;
-
-#[cfg(test)]
-mod tests;

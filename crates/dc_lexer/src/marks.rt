@@ -60,7 +60,8 @@ fn begins(mut spelling: &[u8], mut bytes: &[u8]) -> bool
 }
 
 fn first_mark(mut table: &[(&[u8], Mark)], bytes: &[u8]) -> Option<Scanned>
-    ensures { result ≡ first_mark (map (λ entry. record { bytes = entry.0.now; mark = entry.1 }) table.entry.now) bytes.now }
+    ensures { let entries = map (λ e. record { bytes = e.0.now; mark = e.1 }) table.entry.now in
+        result ≡ first_mark entries bytes.now }
 {
     while let [entry, rest @ ..] = table {
         if begins(entry.0, bytes) {

@@ -1,6 +1,6 @@
 //! The tokens of a whole statement.
 
-ghost use Rattle.std.specs.Prelude.{◌≡◌, IfOk};
+ghost use Rattle.std.specs.Prelude.{◌≡◌, IfOk, OnOk};
 ghost use Rattle.dc_lexer.specs.Answers.{Answers};
 ghost use Rattle.dc_lexer.specs.Progress.{finish, with_lexeme, Reads};
 
@@ -10,7 +10,7 @@ use crate::lexemes::lexeme;
 use crate::limits::{is_large, is_long};
 use crate::words::push_lexeme;
 use dc_text::{DcList, NoMemory};
-use dc_tree::{Fail, Logical, Refusal, Token};
+use dc_tree::{Fail, LeastFinding, Logical, Token};
 use std::alloc::Global;
 
 const NO_LEXEME: u8 = 8;
@@ -19,25 +19,19 @@ const LONG_WORD: u8 = 9;
 
 const LARGE_NUMBER: u8 = 10;
 
-fn with_lexeme(alloc: Global, reading: Reading, lexeme: Token) -> Result<Reading, NoMemory>
-    ensures { IfOk result (λ next. next ≡ with_lexeme reading lexeme) }
-{
-    let Reading {
-        mut tokens,
-        has_long,
-        has_large,
-    } = reading;
-    let has_long = has_long || is_long(&lexeme);
-    let has_large = has_large || is_large(&lexeme);
-    push_lexeme(alloc, &mut tokens, lexeme)?;
-    Ok(Reading {
-        tokens,
-        has_long,
-        has_large,
-    })
+impl Reading {
+    /// Adds the tokens of a lexeme.
+    fn add(&mut self, alloc: Global, lexeme: Token) -> Result<(), NoMemory>
+        ensures { OnOk result (self.new ≡ with_lexeme self.old lexeme) }
+    {
+        self.has_long = self.has_long || is_long(&lexeme);
+        self.has_large = self.has_large || is_large(&lexeme);
+        push_lexeme(alloc, &mut self.tokens, lexeme)
+    }
 }
 
 /// Reads a text to its end, also past words that are too long and numbers that are too large.
+/// There is none where something is left at which no lexeme begins.
 fn reading_of(alloc: Global, text: &[u8]) -> Result<Option<Reading>, NoMemory>
     ensures { IfOk result (λ reading. Reads text.now reading) }
 {
@@ -52,30 +46,22 @@ fn reading_of(alloc: Global, text: &[u8]) -> Result<Option<Reading>, NoMemory>
             return Ok(None);
         };
         let Scanned { length, lexeme } = found;
-        reading = with_lexeme(alloc, reading, lexeme)?;
+        reading.add(alloc, lexeme)?;
         rest = past_blanks(from(rest, length));
     }
     Ok(Some(reading))
-}
-
-fn refused(rule: u8, line: u32) -> Result<DcList<Token>, Fail>
-    ensures { result ≡ Err (Fail.Refused (record { rule = rule; line = line })) }
-{
-    Err(Fail::Refused(Refusal { rule, line }))
 }
 
 fn finish(reading: Option<Reading>, line: u32) -> Result<DcList<Token>, Fail>
     ensures { result ≡ finish reading line }
 {
     let Some(reading) = reading else {
-        return refused(NO_LEXEME, line);
+        return Err(Fail::refused(NO_LEXEME, line));
     };
-    if reading.has_long {
-        return refused(LONG_WORD, line);
-    }
-    if reading.has_large {
-        return refused(LARGE_NUMBER, line);
-    }
+    let mut found = LeastFinding::none();
+    found.note_if(reading.has_long, LONG_WORD, line);
+    found.note_if(reading.has_large, LARGE_NUMBER, line);
+    found.pass()?;
     Ok(reading.tokens)
 }
 

@@ -23,7 +23,10 @@ const SPLITS: [Split<'static>; 8] = [
 ];
 
 fn split_in<'a>(mut table: &[Split<'a>], word: &[u8]) -> Option<(&'a [u8], &'a [u8])>
-    ensures { option_map (λ pair. record { first = pair.0.now; second = pair.1.now }) result ≡ split_in (map (λ entry. record { whole = entry.0.now; first = entry.1.now; second = entry.2.now }) table.entry.now) word.now }
+    ensures { option_map (λ pair. record { first = pair.0.now; second = pair.1.now }) result
+        ≡ split_in
+        (map (λ e. record { whole = e.0.now; first = e.1.now; second = e.2.now }) table.entry.now)
+        word.now }
 {
     while let [entry, rest @ ..] = table {
         if entry.0 == word {
@@ -36,7 +39,8 @@ fn split_in<'a>(mut table: &[Split<'a>], word: &[u8]) -> Option<(&'a [u8], &'a [
 
 /// The two words that a word stands for, if it is joined.
 fn split(word: &[u8]) -> Option<(&'static [u8], &'static [u8])>
-    ensures { option_map (λ pair. record { first = pair.0.now; second = pair.1.now }) result ≡ split joined word.now }
+    ensures { option_map (λ pair. record { first = pair.0.now; second = pair.1.now }) result
+        ≡ split joined word.now }
 {
     split_in(&SPLITS, word)
 }

@@ -10,14 +10,14 @@ use Rattle.dc_tree.specs.declared.fail.Refusal.{Refusal}
 use Rattle.dc_tree.specs.declared.logical_lines.Logical.{Logical}
 use Rattle.dc_lines.specs.declared.draft.Draft.{Draft}
 use Rattle.dc_lines.specs.declared.line.Joint.{Joint}
-use Rattle.dc_lines.specs.declared.reading.Reading.{Reading}
 use Rattle.dc_lines.specs.declared.rule.Rule.{Rule}
 use Rattle.dc_lines.specs.Line.{is_blank, past_blanks, is_comment_line, in_front, past_ampersand, behind_first, context_of, without_comment, is_continued, context_behind, joint_behind, spelled}
 use Rattle.dc_lines.specs.Joined.{Character, Sign, ends, signs_from, gap, signs, placed_from, placed, statement}
 use Rattle.dc_lines.specs.Rules.{is_long, has_foreign, has_open_literal, is_lone, is_open, number_of}
-use Rattle.dc_lines.specs.Answer.{IsFirst, Answers}
+use Rattle.dc_tree.specs.Findings.{IsFirst}
+use Rattle.dc_lines.specs.Answer.{broken_in, Answers}
 use Rattle.dc_lines.specs.TextLines.{lines_of}
-use Rattle.dc_lines.specs.Reading.{put_signs, place, refusal_of, refused, step_on, signs_at, is_none_left, read, start, ended, outcome, Told}
+use Rattle.dc_lines.specs.Reading.{Reading, stands, stops, put_signs, place, refusal_of, refused, step_on, signs_at, is_none_left, read, start, ended, outcome, Told}
 use Rattle.dc_lines.proofs.Steps.{put_more, put_signs-append, read-refused}
 use Rattle.dc_lines.proofs.Pieces.{grow_none, is_too_long_behind}
 use Rattle.dc_lines.proofs.Signs.{Holds, holds_none, spelled_behind, advance, late-passed, passed-none}
@@ -204,10 +204,10 @@ ready-behind k joint draft next line plain is =
 -- What is told behind the line, where the rest gives what it gives.
 abbrev IsGiven : ℕ → Joint → List (List ℕ) → Type 0
 IsGiven k joint lines =
-    (held : List Character) (next : Draft) → Holds held next → IsReady joint next → Gives k joint held next lines (outcome (read (Reading.At (place k joint next)) lines))
+    (held : List Character) (next : Draft) → Holds held next → IsReady joint next → Gives k joint held next lines (outcome (read (stands (place k joint next)) lines))
 
 abbrev given_refused : ℕ → Joint → List Character → Draft → List (List ℕ) → List (List ℕ) → Refusal → Type 0
-given_refused k joint letters draft all lines refusal = Gives k joint letters draft all (outcome (read (Reading.Refused refusal) lines))
+given_refused k joint letters draft all lines refusal = Gives k joint letters draft all (outcome (read (stops refusal) lines))
 
 tell : (k : ℕ) (joint : Joint) (letters : List Character) (draft : Draft) (all lines : List (List ℕ)) (refusal : Refusal) → IsFirstFrom k joint letters all refusal → given_refused k joint letters draft all lines refusal
 tell k joint letters draft all lines refusal is = subst (λ (r : Reading). Gives k joint letters draft all (outcome r)) (sym (read-refused refusal lines)) is
@@ -302,7 +302,7 @@ last-refused k joint letters held draft next line t no_foreign no_literal lone =
 
 -- a line that breaks nothing
 gone_on-clean : (k : ℕ) (joint : Joint) (letters held : List Character) (draft next : Draft) (line : List ℕ) (lines : List (List ℕ)) → Taken k joint letters held draft next line lines → has_foreign joint line ≡ false → has_open_literal joint line ≡ false → is_lone joint line ≡ false
-    → IsGiven (suc k) (joint_behind joint line) lines → Gives k joint letters draft (line ∷ lines) (outcome (read (Reading.At (place (suc k) (joint_behind joint line) next)) lines))
+    → IsGiven (suc k) (joint_behind joint line) lines → Gives k joint letters draft (line ∷ lines) (outcome (read (stands (place (suc k) (joint_behind joint line) next)) lines))
 gone_on-clean k joint letters held draft next line lines t no_foreign no_literal no_lone given =
     gone_on k joint letters held draft next line lines t.kept clean t.spelled_same _ (given held next t.holds t.ready)
   where
@@ -317,7 +317,7 @@ gone_on-clean k joint letters held draft next line lines t no_foreign no_literal
 -- where `&` may be the only character
 on_lone : (k : ℕ) (joint : Joint) (letters held : List Character) (draft next : Draft) (line : List ℕ) (lines : List (List ℕ)) → Taken k joint letters held draft next line lines → has_foreign joint line ≡ false → has_open_literal joint line ≡ false
     → IsGiven (suc k) (joint_behind joint line) lines → (b : Bool) → is_lone joint line ≡ b
-    → Gives k joint letters draft (line ∷ lines) (outcome (read (cond (b && not (is_none_left lines)) (refused Rule.LoneAmpersand (suc k)) (Reading.At (place (suc k) (joint_behind joint line) next))) lines))
+    → Gives k joint letters draft (line ∷ lines) (outcome (read (cond (b && not (is_none_left lines)) (refused Rule.LoneAmpersand (suc k)) (stands (place (suc k) (joint_behind joint line) next))) lines))
 on_lone k joint letters held draft next line lines t no_foreign no_literal given false lone =
     gone_on-clean k joint letters held draft next line lines t no_foreign no_literal lone given
 on_lone k joint letters held draft next line [] t no_foreign no_literal given true lone =
@@ -332,7 +332,7 @@ on_taken : (k : ℕ) (joint : Joint) (letters held : List Character) (draft next
 on_taken k joint letters held draft next line lines t given = by_foreign (has_foreign joint line) refl
   where
     lone : Reading
-    lone = cond (is_lone joint line && not (is_none_left lines)) (refused Rule.LoneAmpersand (suc k)) (Reading.At (place (suc k) (joint_behind joint line) next))
+    lone = cond (is_lone joint line && not (is_none_left lines)) (refused Rule.LoneAmpersand (suc k)) (stands (place (suc k) (joint_behind joint line) next))
 
     by_literal : has_foreign joint line ≡ false → (b : Bool) → has_open_literal joint line ≡ b → Gives k joint letters draft (line ∷ lines) (outcome (read (cond b (refused Rule.OpenLiteral (suc k)) lone) lines))
     by_literal no_foreign true broken =
@@ -374,13 +374,13 @@ on_statement k joint letters draft line lines holds not_long plain given (Some n
 
 -- a comment line
 on_comment : (k : ℕ) (joint : Joint) (letters : List Character) (draft : Draft) (line : List ℕ) (lines : List (List ℕ)) → Holds letters draft → IsReady joint draft → is_long line ≡ false → is_comment_line line ≡ true
-    → IsGiven (suc k) (joint_behind joint line) lines → Gives k joint letters draft (line ∷ lines) (outcome (read (Reading.At (place (suc k) joint draft)) lines))
+    → IsGiven (suc k) (joint_behind joint line) lines → Gives k joint letters draft (line ∷ lines) (outcome (read (stands (place (suc k) joint draft)) lines))
 on_comment k joint letters draft line lines holds ready not_long comment given =
     let goes : joint_behind joint line ≡ joint = ap (λ b. cond b joint (cond (is_continued joint line) (Joint.Continues (context_behind joint line)) Joint.Begins)) comment in
     let same = ap (λ b. signs_where b (record { number = suc k; joint = joint; bytes = line }) (placed_from (suc (suc k)) (joint_behind joint line) lines)) comment in
     let kept : Kept k joint letters letters line lines = record { short = holds.short; passed = λ n. ap (is_too_long_behind n letters) same } in
     gone_on k joint letters letters draft draft line lines kept clean (ap (spelled_behind draft letters) same) _
-    (subst (λ (j : Joint). Gives (suc k) (joint_behind joint line) letters draft lines (outcome (read (Reading.At (place (suc k) j draft)) lines))) goes
+    (subst (λ (j : Joint). Gives (suc k) (joint_behind joint line) letters draft lines (outcome (read (stands (place (suc k) j draft)) lines))) goes
     (given letters draft holds (subst (λ (j : Joint). IsReady j draft) (sym goes) ready)))
   where
     clean : (rule : Rule) → own rule joint line ≡ false
@@ -404,7 +404,7 @@ line-refused k joint letters line lines short long =
 abbrev step_at : ℕ → Bool → Joint → Draft → List ℕ → Reading
 step_at number is_last joint draft line =
     cond (is_long line) (refused Rule.LongLine number)
-    (cond (is_comment_line line) (Reading.At (place number joint draft)) (step_on is_last number joint line (put_signs draft (signs_at number joint line))))
+    (cond (is_comment_line line) (stands (place number joint draft)) (step_on is_last number joint line (put_signs draft (signs_at number joint line))))
 
 on_line : (k : ℕ) (joint : Joint) (letters : List Character) (draft : Draft) (line : List ℕ) (lines : List (List ℕ)) → Holds letters draft → IsReady joint draft
     → IsGiven (suc k) (joint_behind joint line) lines → Gives k joint letters draft (line ∷ lines) (outcome (read (step_at (suc k) (is_none_left lines) joint draft line) lines))
@@ -413,12 +413,12 @@ on_line k joint letters draft line lines holds ready given = by_long (is_long li
     on : Reading
     on = step_on (is_none_left lines) (suc k) joint line (put_signs draft (signs_at (suc k) joint line))
 
-    by_comment : is_long line ≡ false → (b : Bool) → is_comment_line line ≡ b → Gives k joint letters draft (line ∷ lines) (outcome (read (cond b (Reading.At (place (suc k) joint draft)) on) lines))
+    by_comment : is_long line ≡ false → (b : Bool) → is_comment_line line ≡ b → Gives k joint letters draft (line ∷ lines) (outcome (read (cond b (stands (place (suc k) joint draft)) on) lines))
     by_comment not_long true comment = on_comment k joint letters draft line lines holds ready not_long comment given
     by_comment not_long false plain = on_statement k joint letters draft line lines holds not_long plain given (put_signs draft (signs_at (suc k) joint line)) refl
 
     by_long : (b : Bool) → is_long line ≡ b
-        → Gives k joint letters draft (line ∷ lines) (outcome (read (cond b (refused Rule.LongLine (suc k)) (cond (is_comment_line line) (Reading.At (place (suc k) joint draft)) on)) lines))
+        → Gives k joint letters draft (line ∷ lines) (outcome (read (cond b (refused Rule.LongLine (suc k)) (cond (is_comment_line line) (stands (place (suc k) joint draft)) on)) lines))
     by_long true long = tell k joint letters draft (line ∷ lines) lines (refusal_of Rule.LongLine (suc k)) (line-refused k joint letters line lines holds.short long)
     by_long false not_long = by_comment not_long (is_comment_line line) refl
 
@@ -447,12 +447,10 @@ answer text (Ok statements) (Ok list) gives told = record {
 }
 answer text (Err refusal) (Ok list) gives told = cc
 answer text (Ok statements) (Err (Fail.Refused refusal)) gives told = cc
-answer text (Err found) (Err (Fail.Refused refusal)) gives told = subst (IsFirst (lines_of text)) (same_refusal found refusal told) (record {
-  rule = gives.rule;
-  rule_is = gives.rule_is;
-  breaks = breaks-whole gives.rule (lines_of text) found.line ∙ gives.breaks;
-  no_earlier = λ other n less broken. gives.no_earlier other n less (sym (breaks-whole other (lines_of text) n) ∙ broken);
-  no_lesser = λ other less broken. gives.no_lesser other less (sym (breaks-whole other (lines_of text) found.line) ∙ broken);
+answer text (Err found) (Err (Fail.Refused refusal)) gives told = subst (IsFirst (broken_in (lines_of text))) (same_refusal found refusal told) (record {
+  broken = (gives.rule, gives.rule_is, breaks-whole gives.rule (lines_of text) found.line ∙ gives.breaks);
+  no_earlier = λ number line less other. gives.no_earlier other.0 line less (sym (breaks-whole other.0 (lines_of text) line) ∙ other.2);
+  no_lesser = λ number less other. gives.no_lesser other.0 (subst (λ n. n < found.rule) other.1 less) (sym (breaks-whole other.0 (lines_of text) found.line) ∙ other.2);
 })
 answer text found (Err Fail.NoMemory) gives told = tt
 

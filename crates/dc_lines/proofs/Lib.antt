@@ -2,7 +2,6 @@ pub mod Breaks
 pub mod Cutting
 pub mod Ends
 pub mod Examples
-pub mod First
 pub mod Laws
 pub mod Pieces
 pub mod Signs

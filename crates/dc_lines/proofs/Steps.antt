@@ -1,17 +1,19 @@
 -- What the steps of the reader give.
-use Rattle.std.proofs.Common.{◌≡◌, ℕ, ◌+◌, Bool, true, false, cond, ◌&&◌, not, List, [], ◌∷◌, ◌++◌, Option, Some, None, refl, sym, ap, ◌∙◌}
-use Rattle.std.specs.Prelude.{option_and_then}
+use Rattle.std.proofs.Common.{◌≡◌, ℕ, ◌+◌, Bool, true, false, cond, ◌&&◌, not, List, [], ◌∷◌, ◌++◌, Option, Some, None, Result, Ok, Err, refl, sym, ap, subst, ◌∙◌}
+use Rattle.std.specs.Prelude.{option_and_then, IsErrAnd}
+use Rattle.dc_tree.specs.declared.fail.Fail.{Fail}
 use Rattle.dc_tree.specs.declared.fail.Refusal.{Refusal}
+use Rattle.dc_tree.specs.declared.logical_lines.Logical.{Logical}
+use Rattle.dc_lines.specs.declared.draft.Stop.{Stop}
 use Rattle.dc_lines.specs.declared.draft.Draft.{Draft}
 use Rattle.dc_lines.specs.declared.line.Context.{Context}
 use Rattle.dc_lines.specs.declared.line.Joint.{Joint}
 use Rattle.dc_lines.specs.declared.reading.Place.{Place}
-use Rattle.dc_lines.specs.declared.reading.Reading.{Reading}
 use Rattle.dc_lines.specs.declared.rule.Rule.{Rule}
 use Rattle.dc_lines.specs.Line.{is_comment_line, context_of, is_continued, joint_behind, is_apart, spelled}
 use Rattle.dc_lines.specs.Joined.{Sign, character, ends, signs_from, gap}
 use Rattle.dc_lines.specs.Rules.{is_long, has_foreign, has_open_literal, is_lone}
-use Rattle.dc_lines.specs.Reading.{put_sign, put_signs, put_gap, closed, write, place, refusal_of, refused, step_on, signs_at, step, read}
+use Rattle.dc_lines.specs.Reading.{Reading, stands, stops, put_sign, put_signs, put_gap, closed, write, place, refusal_of, refused, step_on, signs_at, step, read, Puts, Steps, Told}
 
 -- ---- the characters of a line, part by part
 
@@ -71,37 +73,60 @@ put_line-ended draft next number joint line put ended =
     let end = cond (is_continued joint line) [] (ends ∷ []) in
     ap (λ b. put_more (cond b [] (ends ∷ [])) (Some next)) (sym ended) ∙ ap (put_more end) put ∙ sym (put_line-is draft number joint line)
 
+-- Where a character of the part wasn't put, the line wasn't.
+pub put-stopped : (draft apart last : Draft) (number : ℕ) (joint : Joint) (line : List ℕ) (is_gap : Bool) (context : Context) (part : List ℕ) (result : Result (Unit {0}) Stop) (stop : Stop)
+    → IsErrAnd result (λ x. x ≡ stop) → put_gap draft number is_gap ≡ Some apart → Puts (put_signs apart (signs_from context number part)) last (Err stop)
+    → is_gap ≡ is_apart joint line → context ≡ context_of joint → part ≡ spelled joint line → Puts (put_signs draft (signs_at number joint line)) last result
+put-stopped draft apart last number joint line is_gap context part (Ok done) stop errs gap_is put is_gap_is context_is part_is = absurd errs
+put-stopped draft apart last number joint line is_gap context part (Err other) stop errs gap_is put is_gap_is context_is part_is =
+    subst (λ (s : Stop). Puts (put_signs draft (signs_at number joint line)) last (Err s)) (sym errs) (by_stop stop put)
+  where
+    by_stop : (s : Stop) → Puts (put_signs apart (signs_from context number part)) last (Err s) → Puts (put_signs draft (signs_at number joint line)) last (Err s)
+    by_stop Stop.TooLong none =
+        sym (put_line-none draft number joint line (put-part draft apart number joint line is_gap context part None (sym gap_is) (sym none) is_gap_is context_is part_is))
+    by_stop Stop.NoMemory none = tt
+
+-- What a step refuses is told.
+pub told-stopped : (result : Result (List Logical) Fail) (fail : Fail) (reading : Reading) (next : Place) (found : Result (List Logical) Refusal)
+    → IsErrAnd result (λ x. x ≡ fail) → Steps reading next (Err fail) → ((refusal : Refusal) → reading ≡ stops refusal → found ≡ Err refusal) → Told result found
+told-stopped (Ok statements) fail reading next found errs steps tells = absurd errs
+told-stopped (Err other) fail reading next found errs steps tells = subst (λ (f : Fail). Told (Err f) found) (sym errs) (by_fail fail steps)
+  where
+    by_fail : (f : Fail) → Steps reading next (Err f) → Told (Err f) found
+    by_fail (Fail.Refused refusal) stopped = tells refusal stopped
+    by_fail Fail.NoMemory stopped = tt
+
 -- ---- the number of lines
 
-cond_at : (b : Bool) (refusal : Refusal) (other : Reading) (p : Place) → cond b (Reading.Refused refusal) other ≡ Reading.At p → other ≡ Reading.At p
+cond_at : (b : Bool) (refusal : Refusal) (other : Reading) (p : Place) → cond b (stops refusal) other ≡ stands p → other ≡ stands p
 cond_at true refusal other p is = cc
 cond_at false refusal other p is = is
 
-lines-at : (q p : Place) → Reading.At q ≡ Reading.At p → p.lines ≡ q.lines
+lines-at : (q p : Place) → stands q ≡ stands p → p.lines ≡ q.lines
 lines-at q p is = cc
 
-step_on-lines : (is_last : Bool) (number : ℕ) (joint : Joint) (line : List ℕ) (o : Option Draft) (p : Place) → step_on is_last number joint line o ≡ Reading.At p → p.lines ≡ number
+step_on-lines : (is_last : Bool) (number : ℕ) (joint : Joint) (line : List ℕ) (o : Option Draft) (p : Place) → step_on is_last number joint line o ≡ stands p → p.lines ≡ number
 step_on-lines is_last number joint line None p is = cc
 step_on-lines is_last number joint line (Some draft) p is =
     let at : Place = place number (joint_behind joint line) draft in
-    let lone : Reading = cond (is_lone joint line && not is_last) (refused Rule.LoneAmpersand number) (Reading.At at) in
+    let lone : Reading = cond (is_lone joint line && not is_last) (refused Rule.LoneAmpersand number) (stands at) in
     let literal : Reading = cond (has_open_literal joint line) (refused Rule.OpenLiteral number) lone in
     let behind = cond_at (has_foreign joint line) (refusal_of Rule.ForeignByte number) literal p is in
     let further = cond_at (has_open_literal joint line) (refusal_of Rule.OpenLiteral number) lone p behind in
-    lines-at at p (cond_at (is_lone joint line && not is_last) (refusal_of Rule.LoneAmpersand number) (Reading.At at) p further)
+    lines-at at p (cond_at (is_lone joint line && not is_last) (refusal_of Rule.LoneAmpersand number) (stands at) p further)
 
 -- a line that isn't too long
 abbrev pub behind_long : Bool → Bool → Place → List ℕ → Reading
 behind_long comment is_last q line =
-    cond comment (Reading.At (place (q.lines + 1) q.joint q.draft)) (step_on is_last (q.lines + 1) q.joint line (put_signs q.draft (signs_at (q.lines + 1) q.joint line)))
+    cond comment (stands (place (q.lines + 1) q.joint q.draft)) (step_on is_last (q.lines + 1) q.joint line (put_signs q.draft (signs_at (q.lines + 1) q.joint line)))
 
-pub step-lines : (is_last : Bool) (q p : Place) (line : List ℕ) → step is_last q line ≡ Reading.At p → p.lines ≡ q.lines + 1
+pub step-lines : (is_last : Bool) (q p : Place) (line : List ℕ) → step is_last q line ≡ stands p → p.lines ≡ q.lines + 1
 step-lines is_last q p line is = by_comment (is_comment_line line) (cond_at (is_long line) (refusal_of Rule.LongLine (q.lines + 1)) (behind_long (is_comment_line line) is_last q line) p is)
   where
-    by_comment : (b : Bool) → behind_long b is_last q line ≡ Reading.At p → p.lines ≡ q.lines + 1
+    by_comment : (b : Bool) → behind_long b is_last q line ≡ stands p → p.lines ≡ q.lines + 1
     by_comment true is = lines-at (place (q.lines + 1) q.joint q.draft) p is
     by_comment false is = step_on-lines is_last (q.lines + 1) q.joint line (put_signs q.draft (signs_at (q.lines + 1) q.joint line)) p is
 
-pub read-refused : (refusal : Refusal) (lines : List (List ℕ)) → read (Reading.Refused refusal) lines ≡ Reading.Refused refusal
+pub read-refused : (refusal : Refusal) (lines : List (List ℕ)) → read (stops refusal) lines ≡ stops refusal
 read-refused refusal [] = refl
 read-refused refusal (line ∷ lines) = refl

@@ -3,11 +3,12 @@
 use Rattle.std.specs.Prelude.{◌≡◌, ℕ, ◌+◌, Bool, true, false, not, ◌&&◌, ◌==◌, nat_lt, List, [], ◌∷◌, ◌++◌, length, Option, Some, None, option_and_then, Result, Ok, Err, if◌then◌else◌}
 use Rattle.dc_tree.specs.declared.fail.Fail.{Fail}
 use Rattle.dc_tree.specs.declared.fail.Refusal.{Refusal}
+use Rattle.dc_tree.specs.Findings.{finding}
 use Rattle.dc_tree.specs.declared.logical_lines.Logical.{Logical}
 use Rattle.dc_lines.specs.declared.draft.Draft.{Draft}
 use Rattle.dc_lines.specs.declared.line.Joint.{Joint}
 use Rattle.dc_lines.specs.declared.reading.Place.{Place}
-use Rattle.dc_lines.specs.declared.reading.Reading.{Reading}
+use Rattle.dc_lines.specs.declared.draft.Stop.{Stop}
 use Rattle.dc_lines.specs.declared.rule.Rule.{Rule}
 use Rattle.dc_lines.specs.Line.{is_blank, is_comment_line, joint_behind}
 use Rattle.dc_lines.specs.Joined.{Sign, written, ends, signs_of}
@@ -49,16 +50,27 @@ put_signs draft (sign ∷ rest) = option_and_then (λ next. put_signs next rest)
 abbrev pub put_gap : Draft → ℕ → Bool → Option Draft
 put_gap draft number is_apart = if is_apart then write draft number 32 else Some draft
 
+-- What is made of a draft, want of memory aside; `None` where the statement gets too long.
+abbrev pub Puts : Option Draft → Draft → Result (Unit {0}) Stop → Type 0
+Puts made next (Ok done) = made ≡ Some next
+Puts made next (Err Stop.TooLong) = made ≡ None
+Puts made next (Err Stop.NoMemory) = Unit {0}
+
 -- ---- the lines
+
+-- Where the reader stands: behind a line, or at the first rule that is broken.
+pub data Reading : Type 0 where
+  stands : Place → Reading
+  stops : Refusal → Reading
 
 abbrev pub place : ℕ → Joint → Draft → Place
 place lines joint draft = record { lines = lines; joint = joint; draft = draft }
 
 abbrev pub refusal_of : Rule → ℕ → Refusal
-refusal_of rule line = record { rule = number_of rule; line = line }
+refusal_of rule line = finding (number_of rule) line
 
 abbrev pub refused : Rule → ℕ → Reading
-refused rule line = Reading.Refused (refusal_of rule line)
+refused rule line = stops (refusal_of rule line)
 
 -- behind a line whose characters were added
 abbrev pub step_on : Bool → ℕ → Joint → List ℕ → Option Draft → Reading
@@ -67,7 +79,7 @@ step_on is_last number joint line (Some draft) =
     if has_foreign joint line then refused Rule.ForeignByte number
     else (if has_open_literal joint line then refused Rule.OpenLiteral number
     else (if is_lone joint line && not is_last then refused Rule.LoneAmpersand number
-    else Reading.At (place number (joint_behind joint line) draft)))
+    else stands (place number (joint_behind joint line) draft)))
 
 abbrev pub signs_at : ℕ → Joint → List ℕ → List Sign
 signs_at number joint line = signs_of (record { number = number; joint = joint; bytes = line })
@@ -75,7 +87,7 @@ signs_at number joint line = signs_of (record { number = number; joint = joint; 
 abbrev pub step : Bool → Place → List ℕ → Reading
 step is_last p line =
     if is_long line then refused Rule.LongLine (p.lines + 1)
-    else (if is_comment_line line then Reading.At (place (p.lines + 1) p.joint p.draft)
+    else (if is_comment_line line then stands (place (p.lines + 1) p.joint p.draft)
     else step_on is_last (p.lines + 1) p.joint line (put_signs p.draft (signs_at (p.lines + 1) p.joint line)))
 
 abbrev pub is_none_left : List (List ℕ) → Bool
@@ -84,22 +96,27 @@ is_none_left (line ∷ lines) = false
 
 abbrev pub read : Reading → List (List ℕ) → Reading
 read reading [] = reading
-read (Reading.Refused refusal) (line ∷ lines) = Reading.Refused refusal
-read (Reading.At p) (line ∷ lines) = read (step (is_none_left lines) p line) lines
+read (stops refusal) (line ∷ lines) = stops refusal
+read (stands p) (line ∷ lines) = read (step (is_none_left lines) p line) lines
 
 abbrev pub start : Reading
-start = Reading.At (place 0 Joint.Begins (record { statements = []; text = []; line = None }))
+start = stands (place 0 Joint.Begins (record { statements = []; text = []; line = None }))
 
 abbrev pub ended : Joint → ℕ → List Logical → Result (List Logical) Refusal
 ended Joint.Begins lines statements = Ok statements
 ended (Joint.Continues context) lines statements = Err (refusal_of Rule.Unfinished lines)
 
 abbrev pub outcome : Reading → Result (List Logical) Refusal
-outcome (Reading.Refused refusal) = Err refusal
-outcome (Reading.At p) = ended p.joint p.lines p.draft.statements
+outcome (stops refusal) = Err refusal
+outcome (stands p) = ended p.joint p.lines p.draft.statements
 
 -- What was found is told, want of memory aside.
 abbrev pub Told : Result (List Logical) Fail → Result (List Logical) Refusal → Type 0
 Told (Ok statements) found = found ≡ Ok statements
 Told (Err (Fail.Refused refusal)) found = found ≡ Err refusal
 Told (Err Fail.NoMemory) found = Unit {0}
+
+abbrev pub Steps : Reading → Place → Result (Unit {0}) Fail → Type 0
+Steps reading next (Ok done) = reading ≡ stands next
+Steps reading next (Err (Fail.Refused refusal)) = reading ≡ stops refusal
+Steps reading next (Err Fail.NoMemory) = Unit {0}

@@ -1,13 +1,16 @@
 //! The statement that is being joined, and those in front of it.
 
-ghost use Rattle.std.specs.Prelude.{◌≡◌, IfOk};
+ghost use Rattle.std.specs.Prelude.{◌≡◌, [], None, OnOk};
 ghost use Rattle.dc_lines.specs.Joined.{sign, signs_from};
-ghost use Rattle.dc_lines.specs.Reading.{begun, write, closed, put_sign, put_signs, put_gap, signs_at};
+ghost use Rattle.dc_lines.specs.Reading.{begun, write, closed, put_sign, put_signs, put_gap};
+ghost use Rattle.dc_lines.specs.Reading.{signs_at, Puts};
+ghost use Rattle.dc_lines.specs.declared.draft.Stop.{Stop};
 
 use crate::line::{Context, Joint, behind, context_of, is_apart, is_blank, is_continued, spelled};
 use dc_text::{DcList, DcText, NoMemory};
 use dc_tree::Logical;
 use std::alloc::Global;
+use std::mem;
 
 /// The longest statement.
 const MOST_BYTES: usize = 1_000_000;
@@ -21,6 +24,22 @@ pub(crate) struct Draft {
     pub line: Option<u32>,
 }
 
+/// Why a draft takes no further character: the statement gets too long, or memory was wanting.
+#[derive(Clone, Copy, Debug, PartialEq, Eq)]
+pub(crate) enum Stop {
+    TooLong,
+    NoMemory,
+}
+
+impl From<NoMemory> for Stop {
+    ghost from_gives = { λ _ e. e ≡ Stop.NoMemory };
+
+    fn from(_error: NoMemory) -> Stop {
+        Stop::NoMemory
+    }
+}
+
+/// The line on which the statement begins, once a character is added.
 fn begun(line: Option<u32>, number: u32, byte: u8) -> Option<u32>
     ensures { result ≡ begun line number byte }
 {
@@ -30,122 +49,101 @@ fn begun(line: Option<u32>, number: u32, byte: u8) -> Option<u32>
     }
 }
 
-/// Adds a character; none where the statement gets too long.
-fn write(draft: Draft, number: u32, byte: u8) -> Result<Option<Draft>, NoMemory>
-    ensures { IfOk result (λ next. next ≡ write draft number byte) }
-{
-    let Draft {
-        statements,
-        mut text,
-        line,
-    } = draft;
-    if text.len() >= MOST_BYTES {
-        return Ok(None);
+impl Draft {
+    pub(crate) fn new(alloc: Global) -> Draft
+        ensures { result ≡ record { statements = []; text = []; line = None } }
+    {
+        Draft {
+            statements: DcList::new(alloc),
+            text: DcText::new(alloc),
+            line: None,
+        }
     }
-    text.push(byte)?;
-    Ok(Some(Draft {
-        statements,
-        text,
-        line: begun(line, number, byte),
-    }))
-}
 
-/// Ends the statement, which is dropped where it is blank.
-fn closed(alloc: Global, draft: Draft) -> Result<Draft, NoMemory>
-    ensures { IfOk result (λ next. next ≡ closed draft) }
-{
-    let Draft {
-        mut statements,
-        text,
-        line,
-    } = draft;
-    if let Some(line) = line {
-        statements.push(Logical { line, text })?;
+    /// Adds a character.
+    fn write(&mut self, number: u32, byte: u8) -> Result<(), Stop>
+        ensures { Puts (write self.old number byte) self.new result }
+    {
+        if self.text.len() >= MOST_BYTES {
+            return Err(Stop::TooLong);
+        }
+        self.text.push(byte)?;
+        self.line = begun(self.line, number, byte);
+        Ok(())
     }
-    Ok(Draft {
-        statements,
-        text: DcText::new(alloc),
-        line: None,
-    })
-}
 
-/// Adds a character of a line.
-fn put_sign(
-    alloc: Global,
-    draft: Draft,
-    context: Context,
-    number: u32,
-    byte: u8,
-) -> Result<Option<Draft>, NoMemory>
-    ensures { IfOk result (λ next. next ≡ put_sign draft (sign context number byte)) }
-{
-    match context {
-        Context::Outside => match byte {
-            b';' => Ok(Some(closed(alloc, draft)?)),
-            b'\t' => write(draft, number, b' '),
-            _ => write(draft, number, byte),
-        },
-        Context::Literal(_mark) => write(draft, number, byte),
+    /// Ends the statement, which is dropped where it is blank.
+    fn close(&mut self, alloc: Global) -> Result<(), NoMemory>
+        ensures { OnOk result (self.new ≡ closed self.old) }
+    {
+        let text = mem::replace(&mut self.text, DcText::new(alloc));
+        if let Some(line) = self.line {
+            self.statements.push(Logical { line, text })?;
+        }
+        self.line = None;
+        Ok(())
     }
-}
 
-/// Adds characters of a line, from a context on.
-fn put_signs(
-    alloc: Global,
-    mut draft: Draft,
-    mut context: Context,
-    number: u32,
-    part: &[u8],
-) -> Result<Option<Draft>, NoMemory>
-    ensures { IfOk result (λ next. next ≡ put_signs draft (signs_from context number part.now)) }
-{
-    for byte in part {
-        let Some(next) = put_sign(alloc, draft, context, number, *byte)? else {
-            return Ok(None);
-        };
-        draft = next;
-        context = behind(context, *byte);
+    /// Adds a character of a line.
+    fn put_sign(
+        &mut self,
+        alloc: Global,
+        context: Context,
+        number: u32,
+        byte: u8,
+    ) -> Result<(), Stop>
+        ensures { Puts (put_sign self.old (sign context number byte)) self.new result }
+    {
+        match (context, byte) {
+            (Context::Outside, b';') => Ok(self.close(alloc)?),
+            (Context::Outside, b'\t') => self.write(number, b' '),
+            _ => self.write(number, byte),
+        }
     }
-    Ok(Some(draft))
-}
 
-/// Puts a blank in front of a line that goes on with its first character.
-fn put_gap(draft: Draft, number: u32, is_apart: bool) -> Result<Option<Draft>, NoMemory>
-    ensures { IfOk result (λ next. next ≡ put_gap draft number is_apart) }
-{
-    if is_apart {
-        write(draft, number, b' ')
-    } else {
-        Ok(Some(draft))
+    /// Adds characters of a line, from a context on.
+    fn put_signs(
+        &mut self,
+        alloc: Global,
+        mut context: Context,
+        number: u32,
+        part: &[u8],
+    ) -> Result<(), Stop>
+        ensures { Puts (put_signs self.old (signs_from context number part.now)) self.new result }
+    {
+        for byte in part {
+            self.put_sign(alloc, context, number, *byte)?;
+            context = behind(context, *byte);
+        }
+        Ok(())
     }
-}
 
-/// Adds a line.
-pub(crate) fn put_line(
-    alloc: Global,
-    draft: Draft,
-    number: u32,
-    joint: Joint,
-    line: &[u8],
-) -> Result<Option<Draft>, NoMemory>
-    ensures { IfOk result (λ next. next ≡ put_signs draft (signs_at number joint line.now)) }
-{
-    let Some(apart) = put_gap(draft, number, is_apart(joint, line))? else {
-        return Ok(None);
-    };
-    let Some(next) = put_signs(
-        alloc,
-        apart,
-        context_of(joint),
-        number,
-        spelled(joint, line),
-    )?
-    else {
-        return Ok(None);
-    };
-    if is_continued(joint, line) {
-        Ok(Some(next))
-    } else {
-        Ok(Some(closed(alloc, next)?))
+    /// Puts a blank in front of a line that goes on with its first character.
+    fn put_gap(&mut self, number: u32, is_apart: bool) -> Result<(), Stop>
+        ensures { Puts (put_gap self.old number is_apart) self.new result }
+    {
+        if is_apart {
+            self.write(number, b' ')?;
+        }
+        Ok(())
+    }
+
+    /// Adds a line.
+    pub(crate) fn put_line(
+        &mut self,
+        alloc: Global,
+        number: u32,
+        joint: Joint,
+        line: &[u8],
+    ) -> Result<(), Stop>
+        ensures { Puts (put_signs self.old (signs_at number joint line.now)) self.new result }
+    {
+        self.put_gap(number, is_apart(joint, line))?;
+        self.put_signs(alloc, context_of(joint), number, spelled(joint, line))?;
+        if is_continued(joint, line) {
+            Ok(())
+        } else {
+            Ok(self.close(alloc)?)
+        }
     }
 }

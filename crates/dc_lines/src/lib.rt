@@ -8,6 +8,3 @@ mod rule;
 mod text_lines;
 
 pub use reading::split;
-
-#[cfg(test)]
-mod tests;

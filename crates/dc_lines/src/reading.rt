@@ -1,16 +1,19 @@
 //! One line at a time, from the first to the last.
 
-ghost use Rattle.std.specs.Prelude.{◌≡◌, ◌+◌, ◌≤◌, ◌<◌, ◌^◌, length, IfOk};
+ghost use Rattle.std.specs.Prelude.{◌≡◌, ◌+◌, ◌≤◌, ◌<◌, ◌^◌, length, Some};
 ghost use Rattle.dc_lines.specs.Answer.{Answers};
-ghost use Rattle.dc_lines.specs.Reading.{refusal_of, refused, step_on, step, start, read, ended, outcome, Told};
+ghost use Rattle.dc_lines.specs.Reading.{stands, step_on, step, start, read, ended, outcome, Steps, Told};
+ghost use Rattle.dc_lines.specs.Rules.{number_of};
+ghost use Rattle.dc_tree.specs.Findings.{finding};
+ghost use Rattle.dc_tree.specs.declared.fail.Fail.{Fail};
 ghost use Rattle.dc_lines.specs.TextLines.{lines_of};
 
-use crate::draft::{Draft, put_line};
+use crate::draft::{Draft, Stop};
 use crate::line::{Joint, is_comment_line, joint_behind};
 use crate::rule::{Rule, has_foreign, has_open_literal, is_lone, is_long, number_of};
 use crate::text_lines::{first_of, from, without_return};
-use dc_text::{DcList, DcText, NoMemory};
-use dc_tree::{Fail, Logical, Refusal};
+use dc_text::DcList;
+use dc_tree::{Fail, Logical};
 use std::alloc::Global;
 
 /// Behind so many lines: how the next is joined, and the statements so far.
@@ -21,101 +24,69 @@ pub(crate) struct Place {
     pub draft: Draft,
 }
 
-/// Where the reader stands: behind a line, or at the first rule that is broken.
-#[derive(Drop)]
-pub(crate) enum Reading {
-    At(Place),
-    Refused(Refusal),
+fn refused(rule: Rule, line: u32) -> Fail
+    ensures { result ≡ Fail.Refused (finding (number_of rule) line) }
+{
+    Fail::refused(number_of(rule), line)
 }
 
-fn refusal_of(rule: Rule, line: u32) -> Refusal
-    ensures { result ≡ refusal_of rule line }
-{
-    Refusal {
-        rule: number_of(rule),
-        line,
+impl Place {
+    /// In front of the first line.
+    fn start(alloc: Global) -> Place
+        ensures { stands result ≡ start }
+    {
+        Place {
+            lines: 0,
+            joint: Joint::Begins,
+            draft: Draft::new(alloc),
+        }
     }
-}
 
-fn refused(rule: Rule, line: u32) -> Reading
-    ensures { result ≡ refused rule line }
-{
-    Reading::Refused(refusal_of(rule, line))
-}
-
-/// Behind a line whose characters were added.
-fn step_on(is_last: bool, number: u32, joint: Joint, line: &[u8], draft: Option<Draft>) -> Reading
-    ensures { result ≡ step_on is_last number joint line.now draft }
-{
-    let Some(draft) = draft else {
-        return refused(Rule::LongStatement, number);
-    };
-    if has_foreign(joint, line) {
-        refused(Rule::ForeignByte, number)
-    } else if has_open_literal(joint, line) {
-        refused(Rule::OpenLiteral, number)
-    } else if is_lone(joint, line) && !is_last {
-        refused(Rule::LoneAmpersand, number)
-    } else {
-        Reading::At(Place {
-            lines: number,
-            joint: joint_behind(joint, line),
-            draft,
-        })
+    /// Goes behind a line whose characters were added.
+    fn step_on(&mut self, is_last: bool, line: &[u8]) -> Result<(), Fail>
+        ensures { let drafted = Some self.old.draft in
+            Steps (step_on is_last self.old.lines self.old.joint line.now drafted) self.new result }
+    {
+        if has_foreign(self.joint, line) {
+            return Err(refused(Rule::ForeignByte, self.lines));
+        }
+        if has_open_literal(self.joint, line) {
+            return Err(refused(Rule::OpenLiteral, self.lines));
+        }
+        if is_lone(self.joint, line) && !is_last {
+            return Err(refused(Rule::LoneAmpersand, self.lines));
+        }
+        self.joint = joint_behind(self.joint, line);
+        Ok(())
     }
-}
 
-fn step(alloc: Global, is_last: bool, place: Place, line: &[u8]) -> Result<Reading, NoMemory>
-    requires { place.lines + 1 < 2 ^ 32 }
-    ensures { IfOk result (λ reading. reading ≡ step is_last place line.now) }
-{
-    let Place {
-        lines,
-        joint,
-        draft,
-    } = place;
-    let number = lines + 1;
-    if is_long(line) {
-        return Ok(refused(Rule::LongLine, number));
+    /// Reads a line.
+    fn step(&mut self, alloc: Global, is_last: bool, line: &[u8]) -> Result<(), Fail>
+        requires { self.old.lines + 1 < 2 ^ 32 }
+        ensures { Steps (step is_last self.old line.now) self.new result }
+    {
+        self.lines += 1;
+        if is_long(line) {
+            return Err(refused(Rule::LongLine, self.lines));
+        }
+        if is_comment_line(line) {
+            return Ok(());
+        }
+        match self.draft.put_line(alloc, self.lines, self.joint, line) {
+            Ok(()) => self.step_on(is_last, line),
+            Err(Stop::TooLong) => Err(refused(Rule::LongStatement, self.lines)),
+            Err(Stop::NoMemory) => Err(Fail::NoMemory),
+        }
     }
-    if is_comment_line(line) {
-        return Ok(Reading::At(Place {
-            lines: number,
-            joint,
-            draft,
-        }));
-    }
-    let added = put_line(alloc, draft, number, joint, line)?;
-    Ok(step_on(is_last, number, joint, line, added))
-}
 
-fn start(alloc: Global) -> Place
-    ensures { Reading.At result ≡ start }
-{
-    Place {
-        lines: 0,
-        joint: Joint::Begins,
-        draft: Draft {
-            statements: DcList::new(alloc),
-            text: DcText::new(alloc),
-            line: None,
-        },
-    }
-}
-
-/// What is answered behind the last line.
-fn ended(place: Place) -> Result<DcList<Logical>, Fail>
-    ensures { Told result (ended place.joint place.lines place.draft.statements) }
-{
-    let Place {
-        lines,
-        joint,
-        draft,
-    } = place;
-    let Draft { statements, .. } = draft;
-    match joint {
-        Joint::Begins => Ok(statements),
-        Joint::Continues(_context) => Err(Fail::Refused(refusal_of(Rule::Unfinished, lines))),
+    /// What is answered behind the last line.
+    fn ended(self) -> Result<DcList<Logical>, Fail>
+        ensures { Told result (ended self.joint self.lines self.draft.statements) }
+    {
+        match self.joint {
+            Joint::Begins => Ok(self.draft.statements),
+            Joint::Continues(_context) => Err(refused(Rule::Unfinished, self.lines)),
+        }
     }
 }
 
@@ -123,17 +94,14 @@ fn read(alloc: Global, text: &[u8]) -> Result<DcList<Logical>, Fail>
     requires { length text.now ≤ 1048576 }
     ensures { Told result (outcome (read start (lines_of text.now))) }
 {
-    let mut place = start(alloc);
+    let mut place = Place::start(alloc);
     let mut rest = text;
     while !rest.is_empty() {
         let line = first_of(rest);
         rest = from(rest, line.len() + 1);
-        match step(alloc, rest.is_empty(), place, without_return(line))? {
-            Reading::At(next) => place = next,
-            Reading::Refused(refusal) => return Err(Fail::Refused(refusal)),
-        }
+        place.step(alloc, rest.is_empty(), without_return(line))?;
     }
-    ended(place)
+    place.ended()
 }
 
 /// Gives the statements of a text, or the first rule of the source form that it breaks: of those

@@ -1,3 +1,5 @@
+//! A value on the heap, seen as that value.
+
 ghost use Rattle.std.specs.Prelude.{◌≡◌, IfOk};
 
 use crate::memory::NoMemory;

@@ -1,4 +1,4 @@
-//! Texts, lists and boxes that contracts see as what they hold.
+//! Texts, lists, stacks and boxes that contracts see as what they hold.
 //!
 //! Every growth can be refused for want of memory, and then leaves the value as it was.
 #![tactic(auto)]
@@ -6,12 +6,11 @@
 mod boxed;
 mod list;
 mod memory;
+mod stack;
 mod text;
 
 pub use boxed::DcBox;
 pub use list::DcList;
 pub use memory::NoMemory;
+pub use stack::Stack;
 pub use text::DcText;
-
-#[cfg(test)]
-mod tests;

@@ -1,6 +1,8 @@
 pub mod Back
 pub mod BlocksBack
+mod ConstantExamples
 mod Examples
+pub mod Findings
 pub mod Names
 pub mod Places
 pub mod Ranks

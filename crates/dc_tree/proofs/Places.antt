@@ -10,7 +10,7 @@ use Rattle.std.proofs.lemmas.Cmp.{nat_list_eq_equiv}
 use Rattle.std.specs.Map.{KeepsOthers}
 use Rattle.indexmap.specs.IndexMap.{IndexMap, get_by, Updates}
 use Rattle.dc_tree.specs.declared.symbols.Symbol.{Symbol}
-use Rattle.dc_tree.specs.Symbols.{is_named, symbol_at}
+use Rattle.dc_tree.specs.Symbols.{declares, symbol_at}
 use Rattle.dc_tree.specs.Places.{place_at, place_in, IsIndex, IsSameIndex, Adds}
 
 -- one place further on
@@ -28,7 +28,7 @@ at-next x xs (Some p) = refl
 -- the symbol at the place of a name is that of the name
 at-place : (xs : List Symbol) (s : ℕ) (n : List ℕ) → option_and_then (λ p. slice_get xs p) (place_at xs s n) ≡ symbol_at xs s n
 at-place [] s n = refl
-at-place (x ∷ xs) s n = by (is_named s n x) (at-next x xs (place_at xs s n) ∙ at-place xs s n)
+at-place (x ∷ xs) s n = by (declares s n x) (at-next x xs (place_at xs s n) ∙ at-place xs s n)
   where
     by : (b : Bool) → option_and_then (λ p. slice_get (x ∷ xs) p) (next (place_at xs s n)) ≡ symbol_at xs s n
         → option_and_then (λ p. slice_get (x ∷ xs) p) (cond b (Some 0) (next (place_at xs s n))) ≡ cond b (Some x) (symbol_at xs s n)
@@ -38,25 +38,25 @@ at-place (x ∷ xs) s n = by (is_named s n x) (at-next x xs (place_at xs s n) �
 -- a name without a symbol has no place
 no-place : (xs : List Symbol) (s : ℕ) (n : List ℕ) → symbol_at xs s n ≡ None → place_at xs s n ≡ None
 no-place [] s n none = refl
-no-place (x ∷ xs) s n none = by (is_named s n x) (no-place xs s n) none
+no-place (x ∷ xs) s n none = by (declares s n x) (no-place xs s n) none
   where
     by : (b : Bool) → (symbol_at xs s n ≡ None → place_at xs s n ≡ None) → cond b (Some x) (symbol_at xs s n) ≡ None → cond b (Some 0) (next (place_at xs s n)) ≡ None
     by true rest none = absurd (none-some x (sym none))
     by false rest none = ap next (rest none)
 
 -- one more symbol, of a name that has none, and of another name
-place-own : (xs : List Symbol) (x : Symbol) (s : ℕ) (n : List ℕ) → place_at xs s n ≡ None → is_named s n x ≡ true → place_at (xs ++ x ∷ []) s n ≡ Some (length xs)
+place-own : (xs : List Symbol) (x : Symbol) (s : ℕ) (n : List ℕ) → place_at xs s n ≡ None → declares s n x ≡ true → place_at (xs ++ x ∷ []) s n ≡ Some (length xs)
 place-own [] x s n none own = rw own refl
-place-own (y ∷ ys) x s n none own = by (is_named s n y) (λ h. place-own ys x s n h own) none
+place-own (y ∷ ys) x s n none own = by (declares s n y) (λ h. place-own ys x s n h own) none
   where
     by : (b : Bool) → (place_at ys s n ≡ None → place_at (ys ++ x ∷ []) s n ≡ Some (length ys)) → cond b (Some 0) (next (place_at ys s n)) ≡ None
         → cond b (Some 0) (next (place_at (ys ++ x ∷ []) s n)) ≡ Some (length (y ∷ ys))
     by true rest none = absurd (none-some 0 (sym none))
     by false rest none = ap next (rest (next-none (place_at ys s n) none))
 
-place-other : (xs : List Symbol) (x : Symbol) (s : ℕ) (n : List ℕ) → is_named s n x ≡ false → place_at (xs ++ x ∷ []) s n ≡ place_at xs s n
+place-other : (xs : List Symbol) (x : Symbol) (s : ℕ) (n : List ℕ) → declares s n x ≡ false → place_at (xs ++ x ∷ []) s n ≡ place_at xs s n
 place-other [] x s n other = rw other refl
-place-other (y ∷ ys) x s n other = ap (λ o. cond (is_named s n y) (Some 0) (next o)) (place-other ys x s n other)
+place-other (y ∷ ys) x s n other = ap (λ o. cond (declares s n y) (Some 0) (next o)) (place-other ys x s n other)
 
 -- a list with one element changed
 get-set_same : {X : Type 0} (xs : List X) (i : ℕ) (y : X) → i < length xs → slice_get (slice_set xs i y) i ≡ Some y
@@ -124,7 +124,7 @@ module _ {A S : Type 0} where
       → symbol_at xs x.scope x.name ≡ None → IsIndex new (xs ++ x ∷ [])
   extended old mid new xs x index same adds none s n =
       let before : place_in mid s n ≡ place_at xs s n = same s n ∙ index s n in
-      elim (cases_Bool (is_named s n x)) [
+      elim (cases_Bool (declares s n x)) [
         | inl own ↦
             let parts = and_parts (eqb x.scope s) (bytes_eq x.name n) own in
             let scope : x.scope ≡ s = eqb-true x.scope s parts.0 in

@@ -1,6 +1,7 @@
 pub mod Back
 pub mod Blocks
 pub mod Entities
+pub mod Findings
 pub mod Grammar
 pub mod Intrinsics
 pub mod Listing

@@ -2,12 +2,12 @@
 use Rattle.std.specs.Prelude.{◌≡◌, ℕ, suc, ◌&&◌, nat_eq, bytes_eq, cond, List, [], ◌∷◌, Option, Some, None, Vec, slice_get, option_map, option_and_then}
 use Rattle.indexmap.specs.IndexMap.{IndexMap, get_by}
 use Rattle.dc_tree.specs.declared.symbols.Symbol.{Symbol}
-use Rattle.dc_tree.specs.Symbols.{is_named}
+use Rattle.dc_tree.specs.Symbols.{declares}
 
 -- the place of a name's first symbol
 abbrev pub place_at : List Symbol → ℕ → List ℕ → Option ℕ
 place_at [] scope name = None
-place_at (first ∷ rest) scope name = cond (is_named scope name first) (Some 0) (option_map (λ place. suc place) (place_at rest scope name))
+place_at (first ∷ rest) scope name = cond (declares scope name first) (Some 0) (option_map (λ place. suc place) (place_at rest scope name))
 
 module _ {A S : Type 0} where
   -- the place that the index has for a name

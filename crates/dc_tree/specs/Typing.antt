@@ -1,16 +1,16 @@
 -- The sorts of expressions, and the values of constant expressions. After ISO/IEC 1539-1:2023, clauses
 -- 10.1.9 and 10.1.12.
-use Rattle.std.specs.Prelude.{Bool, true, false, nat_lt, List, [], ◌∷◌, Option, Some, None, option_map, option_and_then, Ok, Err, if◌then◌else◌, ℤ, pos}
+use Rattle.std.specs.Prelude.{ℕ, Bool, true, false, ◌&&◌, nat_lt, List, [], ◌∷◌, Option, Some, None, is_some, option_map, option_and_then, Ok, Err, if◌then◌else◌, ℤ, pos, int_le}
 use Rattle.dc_int.specs.declared.kind.Kind.{Kind}
 use Rattle.dc_int.specs.declared.operation.Op.{Op}
-use Rattle.dc_int.specs.Kinds.{bits_of}
+use Rattle.dc_int.specs.Kinds.{bits_of, greatest_of}
 use Rattle.dc_int.specs.Operations.{Outcome}
 use Rattle.dc_int.specs.Reductions.{number_of_truth}
 use Rattle.dc_int.specs.Sorts.{Sort, whole, logical, fitted}
 use Rattle.dc_tree.specs.declared.token.Mark.{Mark}
 use Rattle.dc_tree.specs.declared.token.Suffix.{Suffix}
 use Rattle.dc_tree.specs.Entities.{Entity, outside, slots, dummy, constant, function, reduction, nothing, Scope, entity}
-use Rattle.dc_tree.specs.Intrinsics.{Intrinsic, operation, chosen, merge, converted, huge, bit_size, total, any, all, intrinsic}
+use Rattle.dc_tree.specs.Intrinsics.{Intrinsic, operation, chosen, merge, converted, huge, bit_size, kind, total, any, all, intrinsic}
 use Rattle.dc_tree.specs.Literals.{number_of, kind_numbered}
 use Rattle.dc_tree.specs.Operating.{joined_by, led_by, called, about_kind}
 use Rattle.dc_tree.specs.Syntax.{Tree, Args, number, truth, chars, name, refer, paren, unary, binary, no_args, arg}
@@ -93,39 +93,80 @@ sort_referred entity function_of sorts values = sort_of_entity entity
 
 -- ---- constants
 
+-- Whether a function of the language may stand in a constant expression: not one that asks about an array, or
+-- that goes over one. This project's own.
+abbrev pub may_be_constant : Intrinsic → Bool
+may_be_constant (operation op) = true
+may_be_constant (chosen op) = true
+may_be_constant merge = true
+may_be_constant converted = true
+may_be_constant huge = true
+may_be_constant bit_size = true
+may_be_constant kind = true
+may_be_constant other = false
+
+abbrev pub is_constant_name : Scope → List ℕ → Bool
+is_constant_name scope text = is_some (constant_of_entity (entity scope text))
+
+-- The kind of a literal is none, digits, or a named constant.
+abbrev pub is_constant_suffix : Scope → Suffix → Bool
+is_constant_suffix scope (Suffix.Named text) = is_constant_name scope text
+is_constant_suffix scope suffix = true
+
+-- A name that isn't declared, and that is such a function.
+abbrev pub is_constant_function : Entity → Option Intrinsic → Bool
+is_constant_function nothing (Some function_of) = may_be_constant function_of
+is_constant_function entity function_of = false
+
+abbrev mutual
+  -- Whether an expression is a constant expression: a literal, a named constant, a reference to such a function
+  -- of the language whose arguments are constant expressions, brackets round a constant expression, or an
+  -- operation whose operands are. Its value isn't asked: `1 / 0` is one, and `huge(x)` of a variable is none.
+  pub is_constant : Scope → Tree → Bool
+  is_constant scope (number digits suffix) = is_constant_suffix scope suffix
+  is_constant scope (truth value) = true
+  is_constant scope (chars text) = false
+  is_constant scope (name text) = is_constant_name scope text
+  is_constant scope (refer text args) = is_constant_function (entity scope text) (intrinsic text) && are_constant scope args
+  is_constant scope (paren inside) = is_constant scope inside
+  is_constant scope (unary mark right) = is_constant scope right
+  is_constant scope (binary mark left right) = is_constant scope left && is_constant scope right
+
+  pub are_constant : Scope → Args → Bool
+  are_constant scope no_args = true
+  are_constant scope (arg keyed value rest) = is_constant scope value && are_constant scope rest
+
 abbrev pub value_of : Outcome → Option ℤ
 value_of (Ok z) = Some z
 value_of (Err fault) = None
 
--- All of the values, where there are all.
-abbrev pub all_values : List (Option ℤ) → Option (List ℤ)
-all_values [] = Some []
-all_values (value ∷ rest) = option_and_then (λ z. option_map (λ zs. z ∷ zs) (all_values rest)) value
+-- A number as a literal of this kind, within the kind's range.
+abbrev pub literal_value : Kind → ℕ → Option ℤ
+literal_value its_kind n = if int_le (pos n) (greatest_of its_kind) then Some (pos n) else None
 
--- A function of the language at constants. INT wraps, HUGE, BIT_SIZE and KIND ask about the sort, and the
--- inquiries and reductions of arrays are no constants.
+-- The values, where each is there.
+abbrev pub where_each : List (Option ℤ) → Option (List ℤ)
+where_each [] = Some []
+where_each (value ∷ rest) = option_and_then (λ z. option_map (λ zs. z ∷ zs) (where_each rest)) value
+
+abbrev pub first_of : List ℤ → Option ℤ
+first_of [] = None
+first_of (z ∷ rest) = Some z
+
+-- A function of the language at constant arguments. INT wraps to the kind of its result. HUGE, BIT_SIZE and
+-- KIND ask about the sort of their argument, which isn't evaluated.
 abbrev pub constant_called : Intrinsic → Sort → Sort → List (Option ℤ) → Option ℤ
-constant_called converted sort result values = option_map (fitted result) (option_and_then (λ value. value) (first_value values))
+constant_called converted sort result values = option_map (fitted result) (option_and_then first_of (where_each values))
+constant_called function_of sort result values = by (about_kind function_of sort)
   where
-    first_value : List (Option ℤ) → Option (Option ℤ)
-    first_value [] = None
-    first_value (value ∷ rest) = Some value
-constant_called function_of sort result values = by (about_kind function_of sort) (is_elemental function_of)
-  where
-    is_elemental : Intrinsic → Bool
-    is_elemental (operation op) = true
-    is_elemental (chosen op) = true
-    is_elemental merge = true
-    is_elemental other = false
+    by : Option ℤ → Option ℤ
+    by (Some value) = Some value
+    by None = option_and_then (λ zs. value_of (called function_of sort zs)) (where_each values)
 
-    by : Option ℤ → Bool → Option ℤ
-    by (Some value) elemental = Some value
-    by None true = option_and_then (λ zs. value_of (called function_of sort zs)) (all_values values)
-    by None false = None
-
-abbrev pub constant_referred : Entity → Option Intrinsic → List Sort → Sort → List (Option ℤ) → Option ℤ
-constant_referred nothing (Some function_of) sorts result values = constant_called function_of (first_sort sorts) result values
-constant_referred entity function_of sorts result values = None
+-- A reference at its arguments, where it is a constant expression.
+abbrev pub constant_referred : Bool → Option Intrinsic → List Sort → Sort → List (Option ℤ) → Option ℤ
+constant_referred true (Some function_of) sorts result values = constant_called function_of (first_sort sorts) result values
+constant_referred allowed function_of sorts result values = None
 
 abbrev mutual
   -- The sort of an expression.
@@ -143,16 +184,18 @@ abbrev mutual
   sorts_of scope no_args = []
   sorts_of scope (arg keyed value rest) = sort_of scope value ∷ sorts_of scope rest
 
-  -- The value of a constant expression; `None` for one that isn't constant, or whose evaluation meets a
-  -- fault.
+  -- The value of a constant expression. There is none where the expression isn't a constant expression, where
+  -- a literal that is evaluated is out of the range of its kind, or where the evaluation meets a fault.
   pub constant_value : Scope → Tree → Option ℤ
-  constant_value scope (number digits suffix) = Some (pos (number_of digits))
+  constant_value scope (number digits suffix) =
+      if is_constant_suffix scope suffix then literal_value (kind_with_suffix scope suffix) (number_of digits) else None
   constant_value scope (truth value) = Some (number_of_truth value)
   constant_value scope (chars text) = None
   constant_value scope (name text) = constant_of_entity (entity scope text)
   constant_value scope (refer text args) =
       let sort = sort_referred (entity scope text) (intrinsic text) (sorts_of scope args) (constants_of scope args) in
-      constant_referred (entity scope text) (intrinsic text) (sorts_of scope args) sort (constants_of scope args)
+      let allowed = is_constant_function (entity scope text) (intrinsic text) && are_constant scope args in
+      constant_referred allowed (intrinsic text) (sorts_of scope args) sort (constants_of scope args)
   constant_value scope (paren inside) = constant_value scope inside
   constant_value scope (unary mark right) = option_and_then (λ a. value_of (led_by mark (sort_of scope right) a)) (constant_value scope right)
   constant_value scope (binary mark left right) =

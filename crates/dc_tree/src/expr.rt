@@ -1,3 +1,5 @@
+//! Expressions.
+
 use crate::token::{Mark, Suffix};
 use dc_text::{DcBox, DcList, DcText};
 

@@ -9,12 +9,13 @@ mod program;
 mod stmt;
 mod symbols;
 mod token;
+mod words;
 
 pub use expr::{Arg, Expr};
-pub use fail::{Fail, Refusal};
+pub use fail::{Fail, LeastFinding, Refusal};
 pub use laws::{
-    programs_are_told_apart, statements_are_told_apart, tokens_spell_one_expression,
-    trees_are_told_apart,
+    programs_are_told_apart, statements_are_told_apart, the_least_finding_is_the_first,
+    tokens_spell_one_expression, trees_are_told_apart,
 };
 pub use logical_lines::Logical;
 pub use program::{Block, Lined, Node, Part, Procedure, Program};
@@ -24,6 +25,4 @@ pub use stmt::{
 };
 pub use symbols::{Role, Symbol, Symbols};
 pub use token::{Mark, Suffix, Token};
-
-#[cfg(test)]
-mod tests;
+pub use words::is_name;

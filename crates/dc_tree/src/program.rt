@@ -1,3 +1,5 @@
+//! Blocks, procedures and programs.
+
 use crate::stmt::Stmt;
 use dc_text::DcList;
 

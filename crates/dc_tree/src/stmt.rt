@@ -1,3 +1,5 @@
+//! Statements and their parts.
+
 use crate::expr::Expr;
 use dc_int::ReduceOp;
 use dc_text::{DcList, DcText};

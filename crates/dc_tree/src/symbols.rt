@@ -1,3 +1,5 @@
+//! Declared names.
+
 ghost use Rattle.std.specs.Prelude.{◌≡◌, ◌<◌, ◌++◌, ◌∷◌, [], length, None, OnOk, OnErr};
 ghost use Rattle.std.specs.Option.{option_copied};
 ghost use Rattle.dc_tree.specs.Symbols.{symbol_at};
@@ -10,9 +12,10 @@ use indexmap::IndexMap;
 use std::alloc::Global;
 use std::marker::Model;
 
-/// What a name is declared as. A variable with no `bounds` is a scalar; one with no `initial`
-/// begins undefined, and else it has one number for each element. `Function` and `Subroutine`
-/// hold the procedure's number, from 1.
+/// What a name is declared as. A variable with no `bounds` is a scalar. One with no `initial`
+/// begins undefined, and else it has one number for each element, in the order of the elements and
+/// wrapped to the variable's kind already. A truth is 1 or 0. `place` counts the dummies of a
+/// procedure from 0. `Function` and `Subroutine` hold the procedure's number, from 1.
 #[derive(Drop)]
 pub enum Role {
     Variable {

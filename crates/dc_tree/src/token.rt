@@ -1,3 +1,5 @@
+//! Tokens and marks.
+
 use dc_text::DcText;
 
 /// A token of a statement.

@@ -10,7 +10,7 @@ loop-rest-smaller c =
 
 pub loop-rest-preserved : goal.loop-rest-preserved
 loop-rest-preserved c =
-    reached-more c.args.text.now c.loop-rest.reading c.in_ok-reading.reading c.loop-rest.rest.now c.past_blanks-rest-in-loop-rest.result.now c.in-Some.found.length c.in-Some.found.lexeme c.loop-rest.invariant
+    reached-more c.args.text.now c.loop-rest.reading _ c.loop-rest.rest.now c.past_blanks-rest-in-loop-rest.result.now c.in-Some.found.length c.in-Some.found.lexeme c.loop-rest.invariant
     (found_longest c.loop-rest.rest.now _ c.in-Some.found c.in_ok-found.ensures c.in-Some.is)
-    c.in_ok-reading.ensures
+    c.in_ok-add.ensures
     (c.past_blanks-rest-in-loop-rest.ensures ∙ ap past_blanks c.from.ensures)

@@ -1,4 +1,6 @@
-use crate::split;
+//! Texts and their statements.
+
+use dc_lines::split;
 use dc_text::{DcText, NoMemory};
 use dc_tree::{Fail, Refusal};
 use std::alloc::Global;

@@ -1,4 +1,4 @@
-//! The words that are no names.
+//! The words that may be names, and those that may not.
 
 ghost use Rattle.std.specs.Prelude.{◌≡◌};
 ghost use Rattle.std.specs.List.{list_any};
@@ -84,9 +84,9 @@ fn is_joined(word: &[u8]) -> bool
     is_among(&JOINED_WORDS, word)
 }
 
-/// Whether a word may be a name.
-#[tactic(auto, unfolding(dc_tree::specs::Names::is_name))]
-pub(crate) fn is_name(word: &[u8]) -> bool
+/// Whether a word, in small letters, may be a name: whether it isn't reserved.
+#[tactic(auto, unfolding(crate::specs::Names::is_name))]
+pub fn is_name(word: &[u8]) -> bool
     ensures { result ≡ is_name word.now }
 {
     !(is_outer(word) || is_inner(word) || is_joined(word))

@@ -1,0 +1,13 @@
+//! Worked examples of the readers, as tables: what is spelled, and what is read or refused.
+#![tactic(auto)]
+
+#[cfg(test)]
+mod expressions;
+#[cfg(test)]
+mod lexemes;
+#[cfg(test)]
+mod lines;
+#[cfg(test)]
+mod showing;
+#[cfg(test)]
+mod values;
