@@ -1,16 +1,20 @@
 -- What is told of tokens is so.
-use Rattle.std.proofs.Common.{◌≡◌, ◌≤◌, ◌<◌, ℕ, List, Some, None, refl, sym, ap, subst, ◌∙◌, inl, inr}
+use Rattle.std.proofs.Common.{◌≡◌, ◌≤◌, ◌<◌, ℕ, List, Some, None, Ok, Err, refl, sym, ap, subst, ◌∙◌, inl, inr}
 use Rattle.std.specs.Prelude.{nat_le}
 use Rattle.std.proofs.lemmas.Bool.{cases_Bool, leb-true, leb-false}
+use Rattle.dc_tree.specs.declared.fail.Fail.{Fail}
+use Rattle.dc_tree.specs.declared.stmt.Stmt.{Stmt}
 use Rattle.dc_tree.specs.declared.token.Token.{Token}
-use Rattle.dc_tree.specs.Statements.{Statement}
+use Rattle.dc_tree.specs.Statements.{Statement, statement}
 use Rattle.dc_tree.specs.Spelling.{spell_statement}
 use Rattle.dc_tree.specs.Ranking.{RankedStatement}
-use Rattle.dc_stmt.specs.Finding.{Found}
+use Rattle.dc_expr.specs.Answers.{breach}
+use Rattle.dc_slices.specs.declared.reading.Reading.{Reading}
+use Rattle.dc_slices.specs.Finding.{Found}
 use Rattle.dc_stmt.specs.Reading.{statement_reading}
 use Rattle.dc_stmt.specs.Depth.{statement_depth}
-use Rattle.dc_stmt.specs.Judging.{judged}
-use Rattle.dc_stmt.specs.Answers.{Spells, IsNone, IsSo}
+use Rattle.dc_slices.specs.Judging.{judged}
+use Rattle.dc_stmt.specs.Answers.{Spells, IsNone, IsSo, Answers}
 use Rattle.dc_stmt.proofs.Found.{Holds, Spelled}
 use Rattle.dc_stmt.proofs.StatementsComplete.{statement-is}
 use Rattle.dc_stmt.proofs.StatementsSound.{statement-found}
@@ -43,3 +47,19 @@ found-so tokens (Some found) is holds =
 -- What is told of all tokens by their reading is so.
 pub told-so : (tokens : List Token) → IsSo tokens (judged (statement_reading tokens))
 told-so tokens = found-so tokens (statement_reading tokens) refl (statement-found tokens)
+
+-- ---- the answers, by what is read
+
+so-told : (tokens : List Token) (read : Reading Statement) → read ≡ judged (statement_reading tokens) → IsSo tokens read
+so-told tokens read is = subst (λ (r : Reading Statement). IsSo tokens r) (sym is) (told-so tokens)
+
+pub whole-answers : (line : ℕ) (tokens : List Token) (stmt : Stmt) → Reading.Whole (statement stmt) ≡ judged (statement_reading tokens) → Answers line tokens (Ok stmt)
+whole-answers line tokens stmt is = so-told tokens (Reading.Whole (statement stmt)) is
+
+pub deep-answers : (line : ℕ) (tokens : List Token) (fail : Fail) → Reading.Deep ≡ judged (statement_reading tokens) → fail ≡ Fail.Refused (breach 12 line) → Answers line tokens (Err fail)
+deep-answers line tokens fail is same = subst (λ (f : Fail). Answers line tokens (Err f)) (sym same) (inr (refl, so-told tokens Reading.Deep is))
+
+pub none-answers : (line : ℕ) (tokens : List Token) (fail : Fail) → Reading.Nothing ≡ judged (statement_reading tokens) → fail ≡ Fail.Refused (breach 11 line) → Answers line tokens (Err fail)
+none-answers line tokens fail is same = subst (λ (f : Fail). Answers line tokens (Err f)) (sym same) (inl (refl, so-told tokens Reading.Nothing is))
+
+pub ruleset answering = (whole-answers, deep-answers, none-answers)

@@ -5,9 +5,9 @@ use Rattle.dc_tree.specs.declared.token.Mark.{Mark}
 use Rattle.dc_tree.specs.declared.token.Token.{Token}
 use Rattle.dc_tree.specs.Syntax.{Tree, Args, number, truth, chars, name, refer, paren, unary, binary, no_args, arg}
 use Rattle.dc_tree.specs.Grammar.{is_binary, is_prefix, Ranked, RankedArgs, key, spell, spell_args, spell_more}
-use Rattle.dc_stmt.specs.declared.cutting.Class.{Class}
-use Rattle.dc_stmt.specs.declared.cutting.Stop.{Stop}
-use Rattle.dc_stmt.specs.Cutting.{mark_class, class, stops, level, halts, before, from, cuts, pieces, bracket, in_brackets, in_list}
+use Rattle.dc_slices.specs.declared.cutting.Class.{Class}
+use Rattle.dc_slices.specs.declared.cutting.Stop.{Stop}
+use Rattle.dc_slices.specs.Cutting.{mark_class, class, stops, level, halts, before, from, cuts, pieces, bracket, in_brackets, in_list}
 
 -- At this depth the cut passes these tokens, whatever follows them.
 pub record Passes (stop : Stop) (depth : ℕ) (tokens : List Token) : Type 0 where

@@ -3,9 +3,9 @@ use Rattle.std.proofs.Common.{◌≡◌, ℕ, zero, suc, true, List, [], ◌∷�
 use Rattle.std.proofs.lemmas.Bool.{cases_Bool, false≢true}
 use Rattle.dc_tree.specs.declared.token.Mark.{Mark}
 use Rattle.dc_tree.specs.declared.token.Token.{Token}
-use Rattle.dc_stmt.specs.declared.cutting.Class.{Class}
-use Rattle.dc_stmt.specs.declared.cutting.Stop.{Stop}
-use Rattle.dc_stmt.specs.Cutting.{class, stops, level, halts, before, from, cuts, past_first, later, pieces, closed_round, bracket, nothing_behind, in_brackets, closed_square, in_list}
+use Rattle.dc_slices.specs.declared.cutting.Class.{Class}
+use Rattle.dc_slices.specs.declared.cutting.Stop.{Stop}
+use Rattle.dc_slices.specs.Cutting.{class, stops, level, halts, before, from, cuts, past_first, later, pieces, closed_round, bracket, nothing_behind, in_brackets, closed_square, in_list}
 
 -- ---- the slices are the tokens
 

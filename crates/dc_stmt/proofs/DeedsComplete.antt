@@ -10,13 +10,13 @@ use Rattle.dc_tree.specs.Grammar.{Ranked, spell, depth}
 use Rattle.dc_tree.specs.Statements.{Name, Target, assign, fill, call, cycle, exit, return, continue, stop, error_stop, print, read}
 use Rattle.dc_tree.specs.Spelling.{word, equals, bracketed, optional, arguments, named, trees, spell_target, spell_deed}
 use Rattle.dc_tree.specs.Ranking.{is_empty, Each, IsName, RankedTarget, RankedItem, RankedDeed}
-use Rattle.dc_stmt.specs.declared.keyword.Keyword.{Keyword}
-use Rattle.dc_stmt.specs.declared.cutting.Stop.{Stop}
-use Rattle.dc_stmt.specs.Words.{keyword, is_reserved}
-use Rattle.dc_stmt.specs.Finding.{Found, plainly, mapped, both, given, expr, list, any_list, followed_list}
-use Rattle.dc_stmt.specs.Parts.{target, item}
-use Rattle.dc_stmt.specs.Deeds.{assigned, assigned_from, defined, deed_named, action}
-use Rattle.dc_stmt.specs.Deeds as deeds
+use Rattle.dc_slices.specs.declared.keyword.Keyword.{Keyword}
+use Rattle.dc_slices.specs.declared.cutting.Stop.{Stop}
+use Rattle.dc_slices.specs.Words.{keyword, is_reserved}
+use Rattle.dc_slices.specs.Finding.{Found, plainly, mapped, both, given, expr, list, any_list, followed_list}
+use Rattle.dc_parts.specs.Parts.{target, item}
+use Rattle.dc_parts.specs.Deeds.{assigned, defined, deed_named, action}
+use Rattle.dc_slices.specs.Finding as finding
 use Rattle.dc_stmt.specs.Depth.{deepest_of, target_depth, deed_depth}
 use Rattle.dc_stmt.proofs.Clear.{before-stop, from-stop, in_brackets-is}
 use Rattle.dc_stmt.proofs.WordLaws.{keyword-is, name-free}
@@ -64,7 +64,7 @@ target-defined text (Some given) value ranked = refl
 any-trees : (values : List Tree) → Each Ranked values → any_list expr (trees values) ≡ Some (values, deepest_of depth values)
 any-trees values ranked = any_list-is Ranked spell depth expr expr-is comma-tree expr-no-empty values ranked
 
-arguments-are : (brackets : Bool) (values : List Tree) → IsTrue (brackets || is_empty values) → Each Ranked values → deeds.arguments expr (arguments spell brackets values) ≡ Some ((brackets, values), deepest_of depth values)
+arguments-are : (brackets : Bool) (values : List Tree) → IsTrue (brackets || is_empty values) → Each Ranked values → finding.arguments expr (arguments spell brackets values) ≡ Some ((brackets, values), deepest_of depth values)
 arguments-are true values fits ranked = rw (in_brackets-is (trees values) (trees-pass Stop.Closing 0 values ranked closing-calm)) (rw (any-trees values ranked) refl)
 arguments-are false [] fits ranked = refl
 arguments-are false (first ∷ rest) fits ranked = absurd (false≢true fits)
@@ -76,7 +76,7 @@ fits-label : (label : Option Name) → IfSome label IsName → FitsLabel label
 fits-label None fits = tt
 fits-label (Some text) fits = fits
 
-pub label-read : (label : Option Name) → IfSome label IsName → Rattle.dc_stmt.specs.Finding.label (optional named label) ≡ Some (label, 0)
+pub label-read : (label : Option Name) → IfSome label IsName → Rattle.dc_slices.specs.Finding.label (optional named label) ≡ Some (label, 0)
 label-read text fits = label-is text (fits-label text fits)
 
 pub action-is : IsComplete RankedDeed spell_deed deed_depth action

@@ -10,13 +10,13 @@ use Rattle.dc_tree.specs.Statements.{Name, Target, Deed, assign, fill, call, cyc
 use Rattle.dc_tree.specs.Spelling.{word, comma, equals, star, bracketed, enclosed, separated, followed, optional, named, trees, stars, spell_target, spell_deed}
 use Rattle.dc_tree.specs.Spelling as spellings
 use Rattle.dc_tree.specs.Ranking.{is_empty, Each, OneOrMore, IsName, RankedTarget, RankedItem, RankedDeed}
-use Rattle.dc_stmt.specs.declared.keyword.Keyword.{Keyword}
-use Rattle.dc_stmt.specs.declared.cutting.Stop.{Stop}
-use Rattle.dc_stmt.specs.Words.{is, letters}
-use Rattle.dc_stmt.specs.Cutting.{before, from, in_brackets, in_list}
-use Rattle.dc_stmt.specs.Finding.{Found, plainly, mapped, both, given, expr, label, list, any_list, followed_list}
-use Rattle.dc_stmt.specs.Parts.{target, item}
-use Rattle.dc_stmt.specs.Deeds.{arguments, called, errs, printed, past_stars, written, taken, filled, assigned_from, assigned, defined, deed_named, action}
+use Rattle.dc_slices.specs.declared.keyword.Keyword.{Keyword}
+use Rattle.dc_slices.specs.declared.cutting.Stop.{Stop}
+use Rattle.dc_slices.specs.Words.{is, letters}
+use Rattle.dc_slices.specs.Cutting.{before, from, in_brackets, in_list}
+use Rattle.dc_slices.specs.Finding.{Found, plainly, mapped, both, given, expr, label, list, any_list, followed_list, arguments}
+use Rattle.dc_parts.specs.Parts.{target, item}
+use Rattle.dc_parts.specs.Deeds.{called, errs, printed, past_stars, past_comma, past_closing, written, taken, filled, assigned_from, assigned, defined, deed_named, action}
 use Rattle.dc_stmt.proofs.CutLaws.{equals-stops, split-at}
 use Rattle.dc_stmt.proofs.WordLaws.{word-found}
 use Rattle.dc_stmt.proofs.Found.{Holds, Spelled, IsSound, FitsLabel, mapped-holds, both-hold, given-holds, if-holds, holds-more, expr-found, label-found, any_list-found, followed_list-found}
@@ -79,9 +79,16 @@ printed-found (Token.Mark Mark.Times ∷ tokens) =
     (λ values holds. (holds.0, ap (λ (more : List Token). word "print" ∷ star ∷ more) holds.1))
 printed-found tokens = tt
 
+closing-found : (tokens rest : List Token) → past_closing tokens ≡ Some rest → tokens ≡ Token.Mark Mark.Close ∷ rest
+closing-found (Token.Mark Mark.Close ∷ tokens) rest found = let one : tokens ≡ rest = cc in ap (λ (more : List Token). Token.Mark Mark.Close ∷ more) one
+closing-found tokens rest found = absurd (cc)
+
+comma-found : (tokens rest : List Token) → past_comma tokens ≡ Some rest → tokens ≡ comma ∷ star ∷ Token.Mark Mark.Close ∷ rest
+comma-found (Token.Mark Mark.Comma ∷ Token.Mark Mark.Times ∷ tokens) rest found = ap (λ (more : List Token). comma ∷ star ∷ more) (closing-found tokens rest found)
+comma-found tokens rest found = absurd (cc)
+
 stars-found : (tokens rest : List Token) → past_stars tokens ≡ Some rest → stars ++ rest ≡ tokens
-stars-found (Token.Mark Mark.Open ∷ Token.Mark Mark.Times ∷ Token.Mark Mark.Comma ∷ Token.Mark Mark.Times ∷ Token.Mark Mark.Close ∷ tokens) rest found =
-    let one : tokens ≡ rest = cc in ap (λ (more : List Token). stars ++ more) (sym one)
+stars-found (Token.Mark Mark.Open ∷ Token.Mark Mark.Times ∷ tokens) rest found = ap (λ (more : List Token). Token.Mark Mark.Open ∷ star ∷ more) (sym (comma-found tokens rest found))
 stars-found tokens rest found = absurd (cc)
 
 behind-stars : {A : Type 0} (Fits : A → Type 0) (spelled : A → List Token) (part : List Token → Found A) → IsSound Fits spelled part

@@ -13,8 +13,8 @@ use Rattle.dc_tree.specs.Syntax.{Tree, number, name, chars}
 use Rattle.dc_tree.specs.Statements.{logical, integer, absent, listed, pure, typed, between, assign, print}
 use Rattle.dc_tree.specs.Statements.{use_line, declare, procedure_line, end_line, if_action, case, do_line, concurrent, act}
 use Rattle.dc_tree.specs.Spelling.{word, comma, colon, colons, equals, star}
-use Rattle.dc_stmt.specs.Words.{keyword}
-use Rattle.dc_stmt.specs.Finding.{expr}
+use Rattle.dc_slices.specs.Words.{keyword}
+use Rattle.dc_slices.specs.Finding.{expr}
 use Rattle.dc_stmt.specs.Reading.{statement_reading}
 
 abbrev opening : Token

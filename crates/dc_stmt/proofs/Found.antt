@@ -13,10 +13,10 @@ use Rattle.dc_tree.specs.Spelling.{comma, separated, followed, named, optional}
 use Rattle.dc_tree.specs.Ranking.{is_empty, Each, OneOrMore, IsName}
 use Rattle.dc_tree.proofs.ReadingComplete.{complete}
 use Rattle.dc_tree.proofs.ReadingSound.{sound}
-use Rattle.dc_stmt.specs.declared.cutting.Class.{Class}
-use Rattle.dc_stmt.specs.declared.cutting.Stop.{Stop}
-use Rattle.dc_stmt.specs.Cutting.{before, later, pieces, halts}
-use Rattle.dc_stmt.specs.Finding.{Found, plainly, mapped, both, given, measured, expr, name, label, items, list, any_list, followed_list}
+use Rattle.dc_slices.specs.declared.cutting.Class.{Class}
+use Rattle.dc_slices.specs.declared.cutting.Stop.{Stop}
+use Rattle.dc_slices.specs.Cutting.{before, later, pieces, halts}
+use Rattle.dc_slices.specs.Finding.{Found, plainly, mapped, both, given, measured, expr, name, label, items, list, any_list, followed_list}
 use Rattle.dc_stmt.specs.Depth.{deepest_of}
 use Rattle.dc_stmt.proofs.CutLaws.{marked, joined, pieces-joined, later-joined, comma-stops}
 use Rattle.dc_stmt.proofs.Clear.{Passes, append-passes, nothing-passes, token-passes, one-piece, next-piece}

@@ -10,14 +10,15 @@ use Rattle.dc_tree.specs.Grammar.{spell, key}
 use Rattle.dc_tree.specs.Statements.{Name, TypeForm, Dimension, Attribute, Initial, Declared, Prefixed, logical, integer, absent, scalar, listed, pure, recursive, typed, declare, procedure_line}
 use Rattle.dc_tree.specs.Spelling.{colons, bracketed, separated, followed, optional, arguments, named, spell_type, dimensions, spell_initial, spell_attribute, spell_declared, spell_colons, spell_prefix, procedure_word, spell_result}
 use Rattle.dc_tree.specs.Ranking.{is_empty, Each, OneOrMore, IsName, RankedType, RankedAttribute, RankedDeclared, has_initial, needs_colons, RankedPrefix, is_typed, same_prefix, each_once, fits_heading}
-use Rattle.dc_stmt.specs.declared.keyword.Keyword.{Keyword}
-use Rattle.dc_stmt.specs.declared.cutting.Stop.{Stop}
-use Rattle.dc_stmt.specs.Words.{is}
-use Rattle.dc_stmt.specs.Cutting.{before, from, cuts}
-use Rattle.dc_stmt.specs.Finding.{mapped, given, name, list}
-use Rattle.dc_stmt.specs.Parts.{type_form, one_attribute, entity, bare_entity}
-use Rattle.dc_stmt.specs.Deeds as deeds
-use Rattle.dc_stmt.specs.Headings.{declaration, result_of, heading_of, fits_parts, procedure_kind, one_prefix, Shape, shape_pure, shape_recursive, shape_typed, slice_shape, same_shape, once_only, fits_shapes, in_front, from_word, heading_slices, heading, two_words, typed_line, typed_from}
+use Rattle.dc_slices.specs.declared.keyword.Keyword.{Keyword}
+use Rattle.dc_slices.specs.declared.cutting.Stop.{Stop}
+use Rattle.dc_slices.specs.Words.{is}
+use Rattle.dc_slices.specs.Cutting.{before, from, cuts}
+use Rattle.dc_slices.specs.Finding.{mapped, given, name, list}
+use Rattle.dc_parts.specs.Parts.{type_form, one_attribute, entity, bare_entity}
+use Rattle.dc_slices.specs.Finding as finding
+use Rattle.dc_stmt.specs.declared.headings.Shape.{Shape}
+use Rattle.dc_stmt.specs.Headings.{declaration, result_of, heading_of, fits_parts, procedure_kind, one_prefix, slice_shape, same_shape, once_only, fits_shapes, in_front, from_word, heading_slices, heading, two_words, typed_line, typed_from}
 use Rattle.dc_stmt.specs.Depth.{deepest_of, type_depth, attribute_depth, declared_depth, prefix_depth, statement_depth}
 use Rattle.dc_stmt.proofs.Clear.{Passes, nothing-passes, bracket-passes, before-stop, from-stop, before-end, from-end, in_brackets-is}
 use Rattle.dc_stmt.proofs.WordLaws.{keyword-is}
@@ -236,7 +237,7 @@ procedure-kind false = rw (keyword-is Keyword.Subroutine) refl
 comma-name : IsPassed Stop.Comma IsName named
 comma-name text fits = word-passes Stop.Comma 0 text refl
 
-arguments-are : (brackets : Bool) (dummies : List Name) → IsTrue (brackets || is_empty dummies) → Each IsName dummies → deeds.arguments name (arguments_of brackets dummies) ≡ Some ((brackets, dummies), 0)
+arguments-are : (brackets : Bool) (dummies : List Name) → IsTrue (brackets || is_empty dummies) → Each IsName dummies → finding.arguments name (arguments_of brackets dummies) ≡ Some ((brackets, dummies), 0)
 arguments-are true dummies fits ranked =
     rw (in_brackets-is (separated named dummies) (names-pass Stop.Closing 0 dummies closing-calm))
     (rw (any_list-is IsName named (λ (text : Name). 0) name name-is comma-name refl dummies ranked) (rw (nothing-deep dummies) refl))
@@ -275,9 +276,9 @@ parts-fit false prefixes brackets dummies (Some text) fits =
 -- ---- prefixes by their shapes
 
 abbrev pub shape_of : Prefixed → Shape
-shape_of pure = shape_pure
-shape_of recursive = shape_recursive
-shape_of (typed form) = shape_typed
+shape_of pure = Shape.Pure
+shape_of recursive = Shape.Recursive
+shape_of (typed form) = Shape.Typed
 
 prefix-shape : (one : Prefixed) → slice_shape (spell_prefix one) ≡ shape_of one
 prefix-shape pure = rw (keyword-is Keyword.Pure) refl
@@ -309,12 +310,12 @@ pub once-shapes : (prefixes : List Prefixed) → once_only (map shape_of prefixe
 once-shapes [] = refl
 once-shapes (first ∷ rest) = rw (any-same first rest) (rw (once-shapes rest) refl)
 
-typed-shape : (one : Prefixed) → same_shape shape_typed (shape_of one) ≡ is_typed one
+typed-shape : (one : Prefixed) → same_shape Shape.Typed (shape_of one) ≡ is_typed one
 typed-shape pure = refl
 typed-shape recursive = refl
 typed-shape (typed form) = refl
 
-pub any-typed : (prefixes : List Prefixed) → list_any (same_shape shape_typed) (map shape_of prefixes) ≡ list_any is_typed prefixes
+pub any-typed : (prefixes : List Prefixed) → list_any (same_shape Shape.Typed) (map shape_of prefixes) ≡ list_any is_typed prefixes
 any-typed [] = refl
 any-typed (first ∷ rest) = rw (typed-shape first) (rw (any-typed rest) refl)
 

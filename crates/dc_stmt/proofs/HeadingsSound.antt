@@ -10,14 +10,14 @@ use Rattle.dc_tree.specs.Statements.{Name, TypeForm, Attribute, Declared, Prefix
 use Rattle.dc_tree.specs.Spelling.{word, colons, equals, bracketed, separated, followed, optional, named, spell_type, spell_attribute, spell_declared, spell_colons, spell_prefix, procedure_word, spell_result, spell_statement}
 use Rattle.dc_tree.specs.Spelling as spellings
 use Rattle.dc_tree.specs.Ranking.{is_empty, Each, OneOrMore, IsName, RankedType, RankedAttribute, RankedDeclared, has_initial, needs_colons, RankedPrefix, is_typed, each_once, fits_heading, RankedStatement}
-use Rattle.dc_stmt.specs.declared.keyword.Keyword.{Keyword}
-use Rattle.dc_stmt.specs.declared.cutting.Stop.{Stop}
-use Rattle.dc_stmt.specs.Words.{keyword, is, letters}
-use Rattle.dc_stmt.specs.Cutting.{before, from, cuts, in_brackets}
-use Rattle.dc_stmt.specs.Finding.{plainly, mapped, both, given, name, items, list, followed_list}
-use Rattle.dc_stmt.specs.Parts.{type_form, one_attribute, entity, bare_entity}
-use Rattle.dc_stmt.specs.Deeds.{arguments}
-use Rattle.dc_stmt.specs.Headings.{declare_from, declaring, declaration, result_of, fits_parts, Heading, heading_of, procedure_named, procedure_kind, prefix_named, one_prefix, shape_typed, slice_shape, same_shape, once_only, fits_shapes, in_front, from_word, procedure_from, procedure_by, procedure_parts, heading_slices, heading, two_words, typed_from}
+use Rattle.dc_slices.specs.declared.keyword.Keyword.{Keyword}
+use Rattle.dc_slices.specs.declared.cutting.Stop.{Stop}
+use Rattle.dc_slices.specs.Words.{keyword, is, letters}
+use Rattle.dc_slices.specs.Cutting.{before, from, cuts, in_brackets}
+use Rattle.dc_slices.specs.Finding.{plainly, mapped, both, given, name, items, list, followed_list, arguments}
+use Rattle.dc_parts.specs.Parts.{type_form, one_attribute, entity, bare_entity}
+use Rattle.dc_stmt.specs.declared.headings.Shape.{Shape}
+use Rattle.dc_stmt.specs.Headings.{declare_from, declaring, declaration, result_of, fits_parts, Heading, heading_of, procedure_named, procedure_kind, prefix_named, one_prefix, slice_shape, same_shape, once_only, fits_shapes, in_front, from_word, procedure_from, procedure_by, procedure_parts, heading_slices, heading, two_words, typed_from}
 use Rattle.dc_stmt.proofs.CutLaws.{flat, cuts-flat, before-from, split-at, split-none, colons-stops}
 use Rattle.dc_stmt.proofs.WordLaws.{keyword-found, word-found}
 use Rattle.dc_stmt.proofs.Found.{Holds, Spelled, IsSound, mapped-holds, both-hold, given-holds, if-holds, either-holds, name-found, items-found, list-found, followed_list-found}
@@ -105,7 +105,8 @@ result-found ((first ∷ tokens) ∷ []) =
       holds.0,
       ap (λ (t : Token). t ∷ bracketed (named text)) (sym (word-found Keyword.Result first same)) ∙ ap (λ (more : List Token). first ∷ more) holds.1 ∙ sym (append-nil (first ∷ tokens)),
     )))
-result-found slices = tt
+result-found ([] ∷ []) = tt
+result-found (slice ∷ second ∷ slices) = tt
 
 both-true : (a b : Bool) → (a && b) ≡ true → (a ≡ true) × (b ≡ true)
 both-true true b is = (refl, is)
@@ -197,7 +198,7 @@ prefixes-flat (first ∷ rest) = ap (λ (more : List Token). spell_prefix first 
 -- the conditions on prefixes, from their shapes
 shapes-rank : (function : Bool) (prefixes : List Prefixed) → fits_shapes function (map slice_shape (map spell_prefix prefixes)) ≡ true → (each_once prefixes ≡ true) × ((function || not (list_any is_typed prefixes)) ≡ true)
 shapes-rank function prefixes fits =
-    let parts = both-true (once_only (map shape_of prefixes)) (function || not (list_any (same_shape shape_typed) (map shape_of prefixes))) (sym (ap (fits_shapes function) (prefix-shapes prefixes)) ∙ fits) in
+    let parts = both-true (once_only (map shape_of prefixes)) (function || not (list_any (same_shape Shape.Typed) (map shape_of prefixes))) (sym (ap (fits_shapes function) (prefix-shapes prefixes)) ∙ fits) in
     (sym (once-shapes prefixes) ∙ parts.0, sym (ap (λ (any : Bool). function || not any) (any-typed prefixes)) ∙ parts.1)
 
 kind-fits : (function : Bool) (prefixes : List Prefixed) (brackets : Bool) (dummies : List Name) (result : Option Name) → (function || not (list_any is_typed prefixes)) ≡ true → (brackets || is_empty dummies) ≡ true → FitsKind function brackets result

@@ -1,7 +1,9 @@
+pub mod Counted
 pub mod CutLaws
 pub mod Clear
+pub mod Numbers
+pub mod Plain
 pub mod WordLaws
-pub mod Judged
 pub mod Found
 pub mod PartsComplete
 pub mod DeedsComplete

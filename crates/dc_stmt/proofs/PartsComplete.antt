@@ -15,13 +15,13 @@ use Rattle.dc_tree.specs.Statements.{logical, integer, parameter, dimension, int
 use Rattle.dc_tree.specs.Statements.{only, from, up_to, between}
 use Rattle.dc_tree.specs.Spelling.{word, colon, equals, bracketed, enclosed, separated, optional, named, trees, spell_type, spell_dimension, dimensions, spell_intent, spell_attribute, spell_initial, spell_declared, spell_ranging, spell_case, reduce_token, spell_local, spell_target}
 use Rattle.dc_tree.specs.Ranking.{Each, OneOrMore, IsName, RankedType, RankedDimension, RankedAttribute, RankedInitial, RankedDeclared, has_initial, RankedRanging, RankedIndexType, RankedCase, RankedLocal, RankedTarget, RankedItem}
-use Rattle.dc_stmt.specs.declared.keyword.Keyword.{Keyword}
-use Rattle.dc_stmt.specs.declared.cutting.Class.{Class}
-use Rattle.dc_stmt.specs.declared.cutting.Stop.{Stop}
-use Rattle.dc_stmt.specs.Cutting.{before, pieces, halts, stops, class, in_brackets, in_list}
-use Rattle.dc_stmt.specs.Cutting as cutting
-use Rattle.dc_stmt.specs.Finding.{Found, mapped, given, expr, name, list}
-use Rattle.dc_stmt.specs.Parts.{is_keyed, kind, type_form, index_type, bare_entity, declared_from, dimension_pieces, dimension_from, one_dimension, bounds, intent_of, one_attribute, value_of, initial_of, shape, entity, limits, ranging_from, ranging, two_ends, case_pieces, one_case, reduction, reduced, locality, subscripts, target, item}
+use Rattle.dc_slices.specs.declared.keyword.Keyword.{Keyword}
+use Rattle.dc_slices.specs.declared.cutting.Class.{Class}
+use Rattle.dc_slices.specs.declared.cutting.Stop.{Stop}
+use Rattle.dc_slices.specs.Cutting.{before, pieces, halts, stops, class, in_brackets, in_list}
+use Rattle.dc_slices.specs.Cutting as cutting
+use Rattle.dc_slices.specs.Finding.{Found, mapped, given, expr, name, list}
+use Rattle.dc_parts.specs.Parts.{is_keyed, kind, type_form, index_type, bare_entity, declared_from, dimension_pieces, dimension_from, one_dimension, bounds, intent_of, one_attribute, value_of, initial_of, shape, entity, limits, ranging_from, ranging, two_ends, case_pieces, one_case, reduction, reduced, locality, subscripts, target, item}
 use Rattle.dc_stmt.specs.Depth.{deepest_of, depth_within, type_depth, dimension_depth, attribute_depth, initial_depth, declared_depth, ranging_depth, case_depth, target_depth}
 use Rattle.dc_stmt.proofs.Clear.{Passes, Quiet, append-passes, nothing-passes, token-passes, enclosed-passes, bracket-passes, tree-passes, never-other, before-stop, from-stop, before-end, from-end, one-piece, next-piece, in_brackets-is, in_list-is}
 use Rattle.dc_stmt.proofs.WordLaws.{keyword-is}

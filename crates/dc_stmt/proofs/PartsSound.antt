@@ -15,13 +15,13 @@ use Rattle.dc_tree.specs.Statements.{logical, integer, dimension, intent, scalar
 use Rattle.dc_tree.specs.Statements.{only, from, up_to, between}
 use Rattle.dc_tree.specs.Spelling.{word, colon, equals, bracketed, enclosed, separated, optional, named, trees, spell_type, spell_dimension, dimensions, spell_intent, spell_attribute, spell_initial, spell_declared, spell_ranging, spell_case, reduce_token, spell_local, spell_target}
 use Rattle.dc_tree.specs.Ranking.{OneOrMore, IsName, RankedType, RankedDimension, RankedAttribute, RankedInitial, RankedDeclared, RankedIndexType, RankedRanging, RankedCase, RankedLocal, RankedTarget, RankedItem}
-use Rattle.dc_stmt.specs.declared.keyword.Keyword.{Keyword}
-use Rattle.dc_stmt.specs.declared.cutting.Stop.{Stop}
-use Rattle.dc_stmt.specs.Words.{keyword, is, letters}
-use Rattle.dc_stmt.specs.Cutting.{before, pieces, in_brackets, in_list}
-use Rattle.dc_stmt.specs.Cutting as cutting
-use Rattle.dc_stmt.specs.Finding.{Found, plainly, mapped, both, given, expr, name, list}
-use Rattle.dc_stmt.specs.Parts.{is_keyed, past_two, kind, with_kind, integer_with, type_named, type_form, index_named, index_type, dimension_pieces, dimension_from, to_dimension, one_dimension, bounds, intent_named, intent_of, attribute_named, one_attribute, value_of, initial_of, shape, declared_from, entity, bare_from, bare_entity, step_of, limits, ranging_from, ranging, two_ends, case_pieces, one_case, reduction_named, reduction_marked, reduction, reduced, by_default, local_named, locality, subscripts, target_from, target, item}
+use Rattle.dc_slices.specs.declared.keyword.Keyword.{Keyword}
+use Rattle.dc_slices.specs.declared.cutting.Stop.{Stop}
+use Rattle.dc_slices.specs.Words.{keyword, is, letters}
+use Rattle.dc_slices.specs.Cutting.{before, pieces, in_brackets, in_list}
+use Rattle.dc_slices.specs.Cutting as cutting
+use Rattle.dc_slices.specs.Finding.{Found, plainly, mapped, both, given, expr, name, list}
+use Rattle.dc_parts.specs.Parts.{is_keyed, past_two, kind, with_kind, integer_with, type_named, type_form, index_named, index_type, dimension_pieces, dimension_from, to_dimension, one_dimension, bounds, intent_named, intent_of, attribute_named, one_attribute, value_of, initial_of, shape, declared_from, entity, bare_from, bare_entity, step_of, limits, ranging_from, ranging, two_ends, case_pieces, one_case, reduction_named, reduction_marked, reduction, reduced, by_default, local_named, locality, subscripts, target_from, target, item}
 use Rattle.dc_stmt.proofs.CutLaws.{joined, StopsAt, pieces-joined, colon-stops, equals-stops, before-from, split-at, split-none, from-stops, in_brackets-found, in_list-found}
 use Rattle.dc_stmt.proofs.WordLaws.{keyword-found, word-found}
 use Rattle.dc_stmt.proofs.PartsComplete.{IsBare}

@@ -17,14 +17,14 @@ use Rattle.dc_tree.specs.Statements.{if_then, else_if, else_line, end_if, if_act
 use Rattle.dc_tree.specs.Statements.{do_line, do_while, concurrent, end_do, act}
 use Rattle.dc_tree.specs.Spelling.{word, comma, colon, colons, equals, bracketed, separated, followed, optional, named, labelled, spell_type, spell_ranging, spell_case, spell_local, spell_header, spell_prefix, procedure_word, spell_deed, spell_statement}
 use Rattle.dc_tree.specs.Ranking.{Each, OneOrMore, IsName, RankedType, RankedRanging, RankedCase, RankedIndexType, RankedLocal, RankedDeed, RankedEnd, RankedStatement, RankedPrefix, each_once}
-use Rattle.dc_stmt.specs.declared.keyword.Keyword.{Keyword}
-use Rattle.dc_stmt.specs.declared.cutting.Class.{Class}
-use Rattle.dc_stmt.specs.declared.cutting.Stop.{Stop}
-use Rattle.dc_stmt.specs.Words.{letters, keyword, is_reserved}
-use Rattle.dc_stmt.specs.Cutting.{before, from, cuts, pieces, bracket, in_brackets}
-use Rattle.dc_stmt.specs.Finding.{mapped, given, expr, items}
-use Rattle.dc_stmt.specs.Parts.{locality, one_case}
-use Rattle.dc_stmt.specs.Deeds.{action}
+use Rattle.dc_slices.specs.declared.keyword.Keyword.{Keyword}
+use Rattle.dc_slices.specs.declared.cutting.Class.{Class}
+use Rattle.dc_slices.specs.declared.cutting.Stop.{Stop}
+use Rattle.dc_slices.specs.Words.{letters, keyword, is_reserved}
+use Rattle.dc_slices.specs.Cutting.{before, from, cuts, pieces, bracket, in_brackets}
+use Rattle.dc_slices.specs.Finding.{mapped, given, expr, items}
+use Rattle.dc_parts.specs.Parts.{locality, one_case}
+use Rattle.dc_parts.specs.Deeds.{action}
 use Rattle.dc_stmt.specs.Headings.{heading}
 use Rattle.dc_stmt.specs.Reading.{used, cased, is_index, mask_of, indexes, ranges, ranges_of, header, header_from, Header, localities, looped, looped_named, named_line, statement_named, statement_reading}
 use Rattle.dc_stmt.specs.Reading as readings
@@ -145,8 +145,8 @@ ranges-are (first ∷ rest) mask ranked mask_ranked =
 -- a cut that stops at brackets alone, or at `::`
 abbrev IsOpen : Stop → ℕ → Type 0
 IsOpen cut depth =
-    (Rattle.dc_stmt.specs.Cutting.halts cut depth Class.Comma ≡ false) × (Rattle.dc_stmt.specs.Cutting.halts cut depth Class.Colon ≡ false)
-    × (Rattle.dc_stmt.specs.Cutting.halts cut depth Class.Equals ≡ false) × (Rattle.dc_stmt.specs.Cutting.halts cut depth Class.Word ≡ false)
+    (Rattle.dc_slices.specs.Cutting.halts cut depth Class.Comma ≡ false) × (Rattle.dc_slices.specs.Cutting.halts cut depth Class.Colon ≡ false)
+    × (Rattle.dc_slices.specs.Cutting.halts cut depth Class.Equals ≡ false) × (Rattle.dc_slices.specs.Cutting.halts cut depth Class.Word ≡ false)
 
 mask-passes : (cut : Stop) (depth : ℕ) (mask : Option Tree) → IsOpen cut depth → IfSome mask Ranked → Passes cut depth (mask_tokens mask)
 mask-passes cut depth None on ranked = nothing-passes cut depth

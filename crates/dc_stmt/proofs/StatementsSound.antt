@@ -17,14 +17,14 @@ use Rattle.dc_tree.specs.Statements.{do_line, do_while, end_do, act}
 use Rattle.dc_tree.specs.Spelling.{word, comma, colon, colons, equals, bracketed, separated, followed, optional, named, spell_type, spell_form, spell_ranging, spell_case, spell_local, spell_header, spell_deed, spell_statement}
 use Rattle.dc_tree.specs.Spelling as spellings
 use Rattle.dc_tree.specs.Ranking.{is_empty, Each, OneOrMore, IsName, RankedRanging, RankedCase, RankedIndexType, RankedLocal, RankedDeed, RankedStatement}
-use Rattle.dc_stmt.specs.declared.keyword.Keyword.{Keyword}
-use Rattle.dc_stmt.specs.declared.cutting.Stop.{Stop}
-use Rattle.dc_stmt.specs.Words.{keyword, is, letters}
-use Rattle.dc_stmt.specs.Cutting.{before, from, cuts, bracket, in_brackets}
-use Rattle.dc_stmt.specs.Finding.{plainly, mapped, both, given, expr, name, label, items, list}
-use Rattle.dc_stmt.specs.Parts.{index_type, one_case, ranging, locality}
-use Rattle.dc_stmt.specs.Deeds.{action}
-use Rattle.dc_stmt.specs.Reading.{implicit, used_names, used, ended_named, ended, is_then, tested_by, branched, else_tested, otherwise, selected, case_word, cased, is_index, mask_of, more_index, indexes, ranges_of, ranges, Header, header_from, header, localities, concurrent_from, concurrent_parts, looped_named, looped, labelled, named_line, recursive_line, statement_named, statement_reading}
+use Rattle.dc_slices.specs.declared.keyword.Keyword.{Keyword}
+use Rattle.dc_slices.specs.declared.cutting.Stop.{Stop}
+use Rattle.dc_slices.specs.Words.{keyword, is, letters}
+use Rattle.dc_slices.specs.Cutting.{before, from, cuts, bracket, in_brackets}
+use Rattle.dc_slices.specs.Finding.{plainly, mapped, both, given, expr, name, label, items, list}
+use Rattle.dc_parts.specs.Parts.{index_type, one_case, ranging, locality}
+use Rattle.dc_parts.specs.Deeds.{action}
+use Rattle.dc_stmt.specs.Reading.{implicit, used_only, used_from, used_names, used_intrinsic, used, ended_named, ended, is_then, tested_by, branched, else_tested, otherwise, selected, case_word, cased, is_index, mask_of, more_index, indexes, ranges_of, ranges, Header, header_from, header, localities, concurrent_from, concurrent_parts, looped_named, looped, labelled, named_line, recursive_line, statement_named, statement_reading}
 use Rattle.dc_stmt.proofs.CutLaws.{marked, joined, flat, cuts-flat, before-from, split-at, split-none, colons-stops, colon-stops, comma-stops, bracket-found}
 use Rattle.dc_stmt.proofs.WordLaws.{word-found}
 use Rattle.dc_stmt.proofs.Found.{Holds, Spelled, IsSound, mapped-holds, both-hold, given-holds, if-holds, either-holds, holds-more, empty-is, expr-found, name-found, items-found, list-found}
@@ -43,11 +43,9 @@ implicit-found (first ∷ []) =
     if-holds (LineIn (word "implicit" ∷ first ∷ [])) (is Keyword.Nothing first) (plainly implicit_none) (λ same. (tt, ap (λ (t : Token). word "implicit" ∷ t ∷ []) (sym (word-found Keyword.Nothing first same))))
 implicit-found tokens = tt
 
-used-names : (form : UseForm) (tokens : List Token) → Holds (LineIn (word "use" ∷ (spell_form form ++ tokens))) (used_names form tokens)
-used-names form (Token.Word text ∷ Token.Mark Mark.Comma ∷ first ∷ Token.Mark Mark.Colon ∷ tokens) =
+used-only : (form : UseForm) (text : Name) → IsName text → (tokens : List Token) → Holds (LineIn (word "use" ∷ (spell_form form ++ Token.Word text ∷ comma ∷ tokens))) (used_only form text tokens)
+used-only form text fits (first ∷ Token.Mark Mark.Colon ∷ tokens) =
     let Q = LineIn (word "use" ∷ (spell_form form ++ Token.Word text ∷ comma ∷ first ∷ colon ∷ tokens)) in
-    if-holds Q (is_name text) (if is Keyword.Only first then mapped (λ names. use_line form text names) (list name tokens) else None)
-    (λ fits.
     if-holds Q (is Keyword.Only first) (mapped (λ names. use_line form text names) (list name tokens))
     (λ same.
     mapped-holds (Spelled (OneOrMore IsName) (separated named) tokens) Q (λ (names : List Name). use_line form text names) (list name tokens) (names-found tokens)
@@ -55,15 +53,28 @@ used-names form (Token.Word text ∷ Token.Mark Mark.Comma ∷ first ∷ Token.M
       (fits, holds.0),
       ap (λ (t : Token). word "use" ∷ (spell_form form ++ Token.Word text ∷ comma ∷ t ∷ colon ∷ separated named names)) (sym (word-found Keyword.Only first same))
           ∙ ap (λ (more : List Token). word "use" ∷ (spell_form form ++ Token.Word text ∷ comma ∷ first ∷ colon ∷ more)) holds.1,
-    ))))
+    )))
+used-only form text fits tokens = tt
+
+used-from : (form : UseForm) (text : Name) → IsName text → (tokens : List Token) → Holds (LineIn (word "use" ∷ (spell_form form ++ Token.Word text ∷ tokens))) (used_from form text tokens)
+used-from form text fits (Token.Mark Mark.Comma ∷ tokens) = used-only form text fits tokens
+used-from form text fits tokens = tt
+
+used-names : (form : UseForm) (tokens : List Token) → Holds (LineIn (word "use" ∷ (spell_form form ++ tokens))) (used_names form tokens)
+used-names form (Token.Word text ∷ tokens) =
+    if-holds (LineIn (word "use" ∷ (spell_form form ++ Token.Word text ∷ tokens))) (is_name text) (used_from form text tokens) (λ fits. used-from form text fits tokens)
 used-names form tokens = tt
 
-used-found : (tokens : List Token) → Holds (LineIn (word "use" ∷ tokens)) (used tokens)
-used-found (Token.Mark Mark.Colons ∷ tokens) = used-names UseForm.Colons tokens
-used-found (Token.Mark Mark.Comma ∷ first ∷ Token.Mark Mark.Colons ∷ tokens) =
+used-intrinsic : (tokens : List Token) → Holds (LineIn (word "use" ∷ comma ∷ tokens)) (used_intrinsic tokens)
+used-intrinsic (first ∷ Token.Mark Mark.Colons ∷ tokens) =
     if-holds (LineIn (word "use" ∷ comma ∷ first ∷ colons ∷ tokens)) (is Keyword.Intrinsic first) (used_names UseForm.Intrinsic tokens)
     (λ same.
     subst (λ (t : Token). Holds (LineIn (word "use" ∷ comma ∷ t ∷ colons ∷ tokens)) (used_names UseForm.Intrinsic tokens)) (sym (word-found Keyword.Intrinsic first same)) (used-names UseForm.Intrinsic tokens))
+used-intrinsic tokens = tt
+
+used-found : (tokens : List Token) → Holds (LineIn (word "use" ∷ tokens)) (used tokens)
+used-found (Token.Mark Mark.Colons ∷ tokens) = used-names UseForm.Colons tokens
+used-found (Token.Mark Mark.Comma ∷ tokens) = used-intrinsic tokens
 used-found tokens = used-names UseForm.Plain tokens
 
 -- ---- ends

@@ -5,8 +5,8 @@ use Rattle.std.proofs.lemmas.Bool.{cases_Bool, false≢true, true≢false}
 use Rattle.std.proofs.lemmas.Slice.Eq.{bytes_eq-Decides}
 use Rattle.dc_tree.specs.declared.token.Token.{Token}
 use Rattle.dc_tree.specs.Names.{is_name}
-use Rattle.dc_stmt.specs.declared.keyword.Keyword.{Keyword}
-use Rattle.dc_stmt.specs.Words.{letters, keywords, keyword_among, keyword, is, is_reserved}
+use Rattle.dc_slices.specs.declared.keyword.Keyword.{Keyword}
+use Rattle.dc_slices.specs.Words.{letters, keywords, keyword_among, keyword, is, is_reserved}
 
 among-found : (words : List Keyword) (text : List ℕ) (word : Keyword) → keyword_among words text ≡ Some word → text ≡ letters word
 among-found [] text word found = absurd (cc)

@@ -8,7 +8,7 @@ use Rattle.dc_tree.specs.Statements.{Statement, statement}
 use Rattle.dc_tree.specs.Spelling.{spell_statement}
 use Rattle.dc_tree.specs.Ranking.{RankedStatement}
 use Rattle.dc_expr.specs.Answers.{breach}
-use Rattle.dc_stmt.specs.declared.reading.Reading.{Reading}
+use Rattle.dc_slices.specs.declared.reading.Reading.{Reading}
 use Rattle.dc_stmt.specs.Depth.{statement_depth}
 
 -- The grammar gives the statement, and it spells the tokens.

@@ -1,10 +1,4 @@
-pub mod Words
-pub mod Cutting
-pub mod Finding
-pub mod Parts
-pub mod Deeds
+pub mod Answers
+pub mod Depth
 pub mod Headings
 pub mod Reading
-pub mod Depth
-pub mod Judging
-pub mod Answers

@@ -6,7 +6,7 @@ ghost use Rattle.dc_tree.specs.Statements.{Statement};
 ghost use Rattle.dc_tree.specs.Spelling.{spell_statement};
 ghost use Rattle.dc_tree.specs.Ranking.{RankedStatement};
 ghost use Rattle.dc_stmt.specs.Reading.{statement_reading};
-ghost use Rattle.dc_stmt.specs.Judging.{judged};
+ghost use Rattle.dc_slices.specs.Judging.{judged};
 ghost use Rattle.dc_stmt.specs.Answers.{IsSo};
 
 /// Tokens spell one statement at most.

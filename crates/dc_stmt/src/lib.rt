@@ -1,9 +1,15 @@
-//! What tokens spell as a statement: the laws of it.
+//! Statements: from the tokens of one to its tree, or to the rule that they break.
 #![tactic(auto)]
 
-mod cutting;
-mod keyword;
+mod declarations;
+mod headers;
+mod headings;
 mod laws;
-mod reading;
+mod lines;
+mod loops;
+mod procedures;
+mod statements;
+mod uses;
 
 pub use laws::{the_reading_is_exact, tokens_spell_one_statement};
+pub use statements::parse_stmt;

@@ -1,0 +1,6 @@
+use Rattle.std.proofs.lemmas.List.{length-map}
+use Rattle.dc_parts.proofs.Counts.{case-many}
+use Rattle.dc_parts.proofs.cases.case_ends.Goals as goal
+
+pub returns-in_default : goal.returns-in_default
+returns-in_default c = case-many c.args.low.now c.args.high.now _ (simp length-map c.in_default.len_at_least)

@@ -1,0 +1,3 @@
+pub mod CutSteps
+pub mod Judged
+pub mod Lists
