@@ -169,3 +169,8 @@ fresh-symbol entities i entity x symbols different here x_is symbols_is =
     ap (λ (s : Symbol). symbol_at symbols s.scope s.name) x_is
     ∙ ap (λ (list : List Symbol). symbol_at list 0 entity.name) symbols_is
     ∙ fresh entities i entity different here
+
+-- A program that is run today can be run, with the names that it declares.
+pub built-small : (source : Source) → is_built source ≡ true → small.is_small_program (symbols_of source) source ≡ true
+built-small source built =
+    (and_parts (is_short_program source) (small.is_small_program (symbols_of source) source) (and_parts (is_frame source) (is_short_program source && small.is_small_program (symbols_of source) source) built).1).1
