@@ -1,0 +1,4 @@
+pub mod Scopes
+pub mod Blocks
+pub mod Declared
+mod Examples

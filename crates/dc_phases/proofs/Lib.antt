@@ -1,0 +1,5 @@
+pub mod First
+pub mod Gathered
+pub mod Items
+pub mod Answering
+pub mod Unique

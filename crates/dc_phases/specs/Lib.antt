@@ -1,0 +1,4 @@
+pub mod Answer
+pub mod Gathering
+pub mod Lists
+pub mod Phases
