@@ -1,14 +1,1 @@
 pub mod Accepting
-pub mod Cutting
-pub mod DeclaredNames
-pub mod Examples
-pub mod Fronts
-pub mod Lines
-pub mod OperandReading
-pub mod Operators
-pub mod ReadingOn
-pub mod Runs
-pub mod Small
-pub mod TreeBack
-pub mod ValueComplete
-pub mod ValueSound

@@ -1,9 +1,18 @@
-ghost use Rattle.std.specs.Prelude.{◌≡◌, ℕ, List};
-ghost use Rattle.dc_tree.specs.declared.program.Program.{Program};
-ghost use Rattle.dc_tree.specs.declared.symbols.Symbol.{Symbol};
-ghost use Rattle.dc_front.specs.Form.{Spells};
+//! Laws of the definitions, each the clause of a function that does nothing.
+
+ghost use Rattle.dc_front.specs.Form.{IsOneAnswer, IsOneProgram, IsOneRefusal};
 
 /// A text spells one program at most, with one list of symbols.
 pub fn a_text_spells_one_program()
-    ensures { (text : List ℕ) (program other : Program) (symbols others : List Symbol) → Spells text program symbols → Spells text other others → (program ≡ other) × (symbols ≡ others) }
+    ensures { IsOneProgram }
+{}
+
+/// A text that is refused spells no program.
+pub fn a_refused_text_spells_no_program()
+    ensures { IsOneAnswer }
+{}
+
+/// A text has one first refusal at most.
+pub fn the_first_refusal_is_one()
+    ensures { IsOneRefusal }
 {}

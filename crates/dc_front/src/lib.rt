@@ -1,20 +1,11 @@
-//! The phases of the front in their order: from the bytes of a source to its tree, or to the
-//! first rule that it breaks.
+//! From the bytes of a source to its tree and its declared names, or to the first rule that it
+//! breaks.
 #![tactic(auto)]
 
-mod bytes;
-mod checks;
 mod law;
-mod operands;
-mod parts;
-mod pieces;
-mod scanning;
-mod sentences;
 mod source;
-mod steps;
-mod symbols;
-mod trees;
-mod values;
 
-pub use law::a_text_spells_one_program;
+pub use law::{
+    a_refused_text_spells_no_program, a_text_spells_one_program, the_first_refusal_is_one,
+};
 pub use source::{Accepted, accept};

@@ -1,15 +1,13 @@
-ghost use Rattle.std.specs.Prelude.{◌≡◌, false, IfOk, IsTrue};
+//! The phases, then the condition on the programs that are run today.
+
+ghost use Rattle.std.specs.Prelude.{◌≡◌, false, IsTrue};
 ghost use Rattle.dc_tree.specs.Blocks.{source_of};
 ghost use Rattle.dc_tree.specs.SmallPrograms.{is_small_program};
 ghost use Rattle.dc_front.specs.Form.{Answers};
-ghost use Rattle.dc_front.specs.Reading.{finish, taken_in, HasSymbols};
 
-use crate::parts::{Draft, Reading};
-use crate::steps::reading_of;
-use crate::symbols::symbols_of;
-use crate::trees::program;
-use dc_text::NoMemory;
-use dc_tree::{Fail, Program, Refusal, Symbols};
+use dc_form::{is_built, symbols_of};
+use dc_phases::read_program;
+use dc_tree::{Fail, Program, Symbols};
 use std::alloc::Global;
 use std::marker::Model;
 
@@ -62,7 +60,7 @@ impl Accepted {
         &self.symbols
     }
 
-    /// Whether the source has a READ statement. The form has none.
+    /// Whether the source has a READ statement. No program of today has one.
     pub fn reads(&self) -> bool
         ensures { result ≡ false }
     {
@@ -70,53 +68,19 @@ impl Accepted {
     }
 }
 
-const NOT_BUILT: Refusal = Refusal { rule: 0, line: 1 };
+/// The rule of what isn't built yet.
+const NOT_BUILT: u8 = 0;
 
-/// The longest source.
-const MOST_BYTES: usize = 1_048_576;
-
-/// The program and the symbols of what was read.
-fn finish(alloc: Global, reading: Reading) -> Result<Option<(Program, Symbols)>, NoMemory>
-    requires { HasSymbols reading }
-    ensures { IfOk result (λ taken. taken ≡ finish reading) }
-{
-    match reading {
-        Reading::Start => Ok(None),
-        Reading::Titled(_title) => Ok(None),
-        Reading::Outside(_draft) => Ok(None),
-        Reading::Inside(_draft, _opened) => Ok(None),
-        Reading::Ended(draft, last) => {
-            let Draft {
-                title,
-                variables,
-                nodes,
-                ..
-            } = draft;
-            let symbols = symbols_of(alloc, variables.as_slice())?;
-            let program = program(alloc, title, variables.as_slice(), nodes, last)?;
-            Ok(Some((program, symbols)))
-        }
-        Reading::Failed => Ok(None),
-    }
-}
-
-/// The program that a text spells, and its symbols.
-fn taken(alloc: Global, text: &[u8]) -> Result<Option<(Program, Symbols)>, NoMemory>
-    ensures { IfOk result (λ taken. taken ≡ taken_in text.now) }
-{
-    if text.len() > MOST_BYTES {
-        return Ok(None);
-    }
-    finish(alloc, reading_of(alloc, text)?)
-}
-
-/// Reads a source. Today it takes one form alone, and refuses every other text by rule 0, which
-/// stands for what isn't built yet.
+/// Reads a source. It is refused by the first rule that it breaks, and by rule 0 where it breaks none
+/// and its program isn't one of those that are run today.
 pub fn accept(alloc: Global, text: &[u8]) -> Result<Accepted, Fail>
     ensures { Answers text.now result }
 {
-    match taken(alloc, text)? {
-        Some((program, symbols)) => Ok(Accepted { program, symbols }),
-        None => Err(Fail::Refused(NOT_BUILT)),
+    let program = read_program(alloc, text)?;
+    if is_built(&program) {
+        let symbols = symbols_of(alloc, &program)?;
+        Ok(Accepted { program, symbols })
+    } else {
+        Err(Fail::refused(NOT_BUILT, 1))
     }
 }

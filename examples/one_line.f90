@@ -1,0 +1,1 @@
+program p; integer::i,a(3); do concurrent(i=1:3); a(i)=i; enddo; print*,a; end program p
