@@ -1,12 +1,12 @@
 -- Operations on numbers, each computed by the definitions.
 use Rattle.std.proofs.Common.{◌≡◌, ℕ, ◌+◌, List, [], ◌∷◌, refl}
-use Rattle.std.specs.Prelude.{ℤ, pos, neg_ℤ, Ok, Err}
+use Rattle.std.specs.Prelude.{ℤ, pos, neg_ℤ, Ok, Err, filter}
 use Rattle.std.specs.Int.{int_wrap}
 use Rattle.dc_int.specs.declared.kind.Kind.{Kind}
 use Rattle.dc_int.specs.declared.operation.Op.{Op}
 use Rattle.dc_int.specs.declared.operation.OpFault.{OpFault}
 use Rattle.dc_int.specs.Kinds.{bits_of, least_of, greatest_of}
-use Rattle.dc_int.specs.Operations.{Outcome, applied}
+use Rattle.dc_int.specs.Operations.{Outcome, applied, takes_place}
 
 -- -2**2 is the negative of a power
 pub two_squared : applied Op.Pow Kind.K4 (pos 2) (pos 2) ≡ Ok (pos 4)
@@ -260,3 +260,12 @@ ibset_at_limit = refl
 pub ibclr_at_limit : at_limit Op.Ibclr 15 ≡ then_refused (pos 32766)
 unfolding int_wrap
 ibclr_at_limit = refl
+
+-- the operations whose second operand is a place
+abbrev all_operations : List Op
+all_operations =
+    Op.Add ∷ Op.Sub ∷ Op.Mul ∷ Op.Neg ∷ Op.Abs ∷ Op.Div ∷ Op.Mod ∷ Op.Modulo ∷ Op.Pow ∷ Op.Min ∷ Op.Max ∷ Op.Sign ∷ Op.Dim ∷ Op.Iand ∷ Op.Ior ∷ Op.Ieor ∷ Op.Not
+    ∷ Op.Ishft ∷ Op.Shiftl ∷ Op.Shiftr ∷ Op.Shifta ∷ Op.Ibset ∷ Op.Ibclr ∷ Op.Popcnt ∷ []
+
+pub six_take_places : filter takes_place all_operations ≡ Op.Ishft ∷ Op.Shiftl ∷ Op.Shiftr ∷ Op.Shifta ∷ Op.Ibset ∷ Op.Ibclr ∷ []
+six_take_places = refl
