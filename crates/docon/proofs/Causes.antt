@@ -6,7 +6,7 @@ use Rattle.dc_code.specs.Troubles as troubles
 use Rattle.dc_code.specs.Troubles.{Trouble, masked, raced}
 use Rattle.dc_code.specs.Verdicts.{trouble_in}
 use Rattle.dc_tree.specs.Blocks.{source_of}
-use Rattle.dc_front.proofs.Accepting.{one-program}
+use Rattle.dc_front.proofs.Accepting.{one-program, one-answer}
 use Rattle.dc_outer.specs.Causes.{Rose}
 use Rattle.dc_run.specs.Playing as playing
 use Rattle.dc_run.specs.ReportLine as endings
@@ -105,7 +105,7 @@ ended_whole asked out log answer report (of_run text read run) all =
     let status = run-status text report run in
     with_run ran (steady_of report out log answer all) all.answer_is (omega (arith, all.answer_is, status.most)) (λ one. status.other (sym all.answer_is ∙ one))
 ended_whole asked out log answer report (of_refusal text read refusal) all =
-    with_refused text read (λ accepted. refusal.refused accepted.0 accepted.1 accepted.2) (steady_of report out log answer all) (all.answer_is ∙ ap (λ (x : Report). x.status) refusal.is)
+    with_refused text read (refusal.refusal, refusal.first) (steady_of report out log answer all) (all.answer_is ∙ ap (λ (x : Report). x.status) refusal.is)
 ended_whole asked out log answer report (of_fault named rose is) all =
     with_read named rose (steady_of report out log answer all) (all.answer_is ∙ ap (λ (x : Report). x.status) is)
 
@@ -157,11 +157,15 @@ one_status text report run status ends =
     run.ran.status_is ∙ ap (λ (outcome : playing.Outcome). status_of outcome.ending) (sym run.ran.ran.is)
     ∙ (λ i. status_of (run_of (same.1 i) (source_of (same.0 i))).ending) ∙ ends.is
 
+-- A source that is refused spells no program.
+not_both : (text : List ℕ) → IsRefused text → IsAccepted text → ⊥
+not_both text refused accepted = one-answer text refused.0 accepted.0 accepted.1 refused.1 accepted.2
+
 wherever_run : {W L : Type 0} (status : ℕ) (asked : Reading) (out : Change W) (log : Change L) (answer : ℕ) → Ended asked out log answer → (text : List ℕ) → Tells asked text → EndsWithStatus status text → IsUnlessFailed status answer
 wherever_run status asked out log answer (with_run ran steady is most other) text tells ends =
     inl (is ∙ one_status ran.text ran.report ran.run status (subst (EndsWithStatus status) (sym (given_is_told asked ran.text text ran.read tells)) ends))
 wherever_run status asked out log answer (with_refused given read refused steady is) text tells ends =
-    absurd (refused (subst IsAccepted (sym (given_is_told asked given text read tells)) (ends.program, ends.symbols, ends.spelled)))
+    absurd (not_both given refused (subst IsAccepted (sym (given_is_told asked given text read tells)) (ends.program, ends.symbols, ends.spelled)))
 wherever_run status asked out log answer (with_words nameless steady is) text tells ends = absurd (not_none (file_of asked.words) tells.file nameless tells.named)
 wherever_run status asked out log answer (with_read named rose steady is) text tells ends = absurd (tells.no_fault rose)
 wherever_run status asked out log answer (with_write report reported cut is) text tells ends = inr (inl is)
@@ -182,7 +186,7 @@ only_refused asked out log answer (with_memory out_none log_none is) one = absur
 
 wherever_refused : {W L : Type 0} (asked : Reading) (out : Change W) (log : Change L) (answer : ℕ) → Ended asked out log answer → (text : List ℕ) → Tells asked text → IsRefused text → IsUnlessFailed 1 answer
 wherever_refused asked out log answer (with_run ran steady is most other) text tells refused =
-    absurd (refused (subst IsAccepted (given_is_told asked ran.text text ran.read tells) (ran.run.program, ran.run.symbols, ran.run.spelled)))
+    absurd (not_both text refused (subst IsAccepted (given_is_told asked ran.text text ran.read tells) (ran.run.program, ran.run.symbols, ran.run.spelled)))
 wherever_refused asked out log answer (with_refused given read others steady is) text tells refused = inl is
 wherever_refused asked out log answer (with_words nameless steady is) text tells refused = absurd (not_none (file_of asked.words) tells.file nameless tells.named)
 wherever_refused asked out log answer (with_read named rose steady is) text tells refused = absurd (tells.no_fault rose)

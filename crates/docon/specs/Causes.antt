@@ -1,9 +1,10 @@
 -- Where each answer of the top call comes, and what then stands. This project's own.
 use Rattle.std.specs.Prelude.{◌≡◌, ℕ, ◌≤◌, List, take, Some, None, option_map, IsSome, IfSome, ◌⊎◌}
+use Rattle.dc_tree.specs.declared.fail.Refusal.{Refusal}
 use Rattle.dc_tree.specs.declared.program.Program.{Program}
 use Rattle.dc_tree.specs.declared.symbols.Symbol.{Symbol}
 use Rattle.dc_tree.specs.Blocks.{source_of}
-use Rattle.dc_front.specs.Form.{Spells}
+use Rattle.dc_front.specs.Form.{Spells, IsFirstRefusal}
 use Rattle.dc_outer.specs.Causes.{Rose}
 use Rattle.docon.specs.declared.report.Report.{Report}
 use Rattle.docon.specs.Report.{Reading, contents, file_of, read_limit, run_of, status_of, RunReport, IsReport, HasOutcome, Reported}
@@ -22,9 +23,9 @@ NoWriteFault sink = NoFault (sink.faults sink.before) (sink.faults sink.now)
 abbrev pub IsAccepted : List ℕ → Type 0
 IsAccepted text = (program : Program) × (symbols : List Symbol) × Spells text program symbols
 
--- no program is spelled by the source
+-- the source has a first refusal
 abbrev pub IsRefused : List ℕ → Type 0
-IsRefused text = ¬ (IsAccepted text)
+IsRefused text = (refusal : Refusal) × IsFirstRefusal text refusal
 
 -- The reading gave this source: the words name a file, no fault came, and where the files tell,
 -- these are the first bytes that they hold.

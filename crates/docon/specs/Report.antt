@@ -6,10 +6,11 @@ use Rattle.dc_int.specs.declared.fault.Why.{Why}
 use Rattle.dc_code.specs.Inner.{judging}
 use Rattle.dc_code.specs.Troubles.{Trouble, ended, masked, raced}
 use Rattle.dc_code.specs.Verdicts.{trouble_in}
+use Rattle.dc_tree.specs.declared.fail.Refusal.{Refusal}
 use Rattle.dc_tree.specs.declared.program.Program.{Program}
 use Rattle.dc_tree.specs.declared.symbols.Symbol.{Symbol}
 use Rattle.dc_tree.specs.Blocks.{Source, source_of}
-use Rattle.dc_front.specs.Form.{Spells}
+use Rattle.dc_front.specs.Form.{Spells, IsFirstRefusal}
 use Rattle.dc_outer.specs.Causes.{Rose}
 use Rattle.dc_run.specs.Playing as playing
 use Rattle.dc_run.specs.ReportLine.{Ending, done, bad, stopped, outside_names, report_line}
@@ -94,10 +95,11 @@ pub record RunReport (text : List ℕ) (report : Report) : Type 0 where
   pub spelled : Spells text program symbols
   pub ran : IsRunReport symbols (source_of program) report
 
--- The source is refused: no program is spelled by it.
+-- The source is refused: the log has its first refusal, the line and the rule.
 pub record RefusalReport (text : List ℕ) (report : Report) : Type 0 where
-  pub refused : (program : Program) (symbols : List Symbol) → Spells text program symbols → ⊥
-  pub is : report ≡ only_log (refusal_words 1 0) 1
+  pub refusal : Refusal
+  pub first : IsFirstRefusal text refusal
+  pub is : report ≡ only_log (refusal_words refusal.line refusal.rule) 1
 
 abbrev pub IsSourceReport : List ℕ → Report → Type 0
 IsSourceReport text report = RunReport text report ⊎ RefusalReport text report

@@ -29,6 +29,7 @@ fn values(rt: HostRuntime) -> Result<(), Fail> {
         ("2", "10*i-i-i", "8 16\n"),
         ("2", "000000007", "7 7\n"),
         ("1", "999999999*999999999*999999999", "-1532731905\n"),
+        ("2", "I  *\ti", "1 4\n"),
     ];
     for (size, value, out) in table {
         let source = form(rt.alloc(), size, value)?;
@@ -41,31 +42,52 @@ fn values(rt: HostRuntime) -> Result<(), Fail> {
 
 #[test]
 fn refusals(rt: HostRuntime) -> Result<(), Fail> {
+    let not_built = "refused: line 1: K0\n";
+    let no_statement = "refused: line 4: K11\n";
     let table = [
-        ("0", "i"),
-        ("04", "i"),
-        ("10000", "i"),
-        ("4", ""),
-        ("4", "i*"),
-        ("4", "-i"),
-        ("4", "i  *i"),
-        ("4", " i"),
-        ("4", "i "),
-        ("4", "j"),
-        ("4", "a"),
-        ("4", "1234567890"),
-        ("4", "i/2"),
-        ("4", "(i)"),
+        ("0", "i", not_built),
+        ("04", "i", not_built),
+        ("10000", "i", not_built),
+        ("4", "", no_statement),
+        ("4", "i*", no_statement),
+        ("4", "-i", not_built),
+        ("4", "j", not_built),
+        ("4", "a", not_built),
+        ("4", "1234567890", not_built),
+        ("4", "i/2", not_built),
+        ("4", "(i)", not_built),
     ];
-    for (size, value) in table {
+    for (size, value, log) in table {
         let source = form(rt.alloc(), size, value)?;
         let answer = call(rt.alloc(), source.as_bytes(), &["run", "s.f90"], &WELL)?;
-        assert_eq!(rt;
-            answer.log.as_bytes(),
-            b"refused: line 1: K0\n".as_slice(),
-            "of {value}"
-        );
+        assert_eq!(rt; answer.log.as_bytes(), log.as_bytes(), "of {value}");
         assert_eq!(rt; (answer.out.len(), answer.status), (0, 1), "of {value}");
+    }
+    Ok(())
+}
+
+/// Texts in the free source form, each with what stands on out and on the log.
+#[test]
+fn free_form(rt: HostRuntime) -> Result<(), Fail> {
+    let table = [
+        ("", "", "refused: line 1: K13\n"),
+        ("program p\ninteger :: i\ndo concurrent (\n", "", "refused: line 3: K11\n"),
+        ("program p\ninteger :: a\na = 1\nprint *, a\n", "", "refused: line 4: K13\n"),
+        (
+            "program p\ninteger :: i\ndo concurrent (i = 1:3)\nexit\nend do\nend program p\n",
+            "",
+            "refused: line 4: K17\n",
+        ),
+        (
+            "! a comment\nPROGRAM P; Integer :: a,b\n\na = 4&\n   &2 ! joined\nB = &\n\ta  +1\nprint*,b\nEndProgram p",
+            "43\n",
+            "",
+        ),
+    ];
+    for (source, out, log) in table {
+        let answer = call(rt.alloc(), source.as_bytes(), &["run", "s.f90"], &WELL)?;
+        assert_eq!(rt; answer.out.as_bytes(), out.as_bytes(), "of {source}");
+        assert_eq!(rt; answer.log.as_bytes(), log.as_bytes(), "of {source}");
     }
     Ok(())
 }
@@ -137,7 +159,7 @@ fn sure_sinks(rt: HostRuntime) -> Result<(), Fail> {
     let source = form(rt.alloc(), "4", "i*i")?;
     let table: [(&str, &[u8], &[u8], u8); 2] = [
         ("s.f90", b"1 4 9 16\n", b"", 0),
-        ("t.f90", b"", b"refused: line 1: K0\n", 1),
+        ("t.f90", b"", b"refused: line 1: K13\n", 1),
     ];
     for (name, wanted, logged, status) in table {
         let mut pairs = DcList::new(rt.alloc());
