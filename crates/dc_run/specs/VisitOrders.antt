@@ -2,8 +2,8 @@
 -- clauses 11.1.7.4 and 11.1.7.5.
 use Rattle.std.specs.Prelude.{◌≡◌, ℕ, List, All}
 use Rattle.dc_code.specs.EveryOrder.{SaysOfOrders}
-use Rattle.dc_code.specs.Inner.{judging, parts, greatest_depth}
-use Rattle.dc_code.specs.Loops.{Parts}
+use Rattle.dc_code.specs.Inner.{judging, nested_loop, greatest_depth}
+use Rattle.dc_code.specs.Loops.{Loop}
 use Rattle.dc_code.specs.Visits.{visited}
 use Rattle.dc_tree.specs.declared.symbols.Symbol.{Symbol}
 use Rattle.dc_tree.specs.Blocks.{Source}
@@ -11,8 +11,8 @@ use Rattle.dc_meaning.specs.Programs.{program_forms}
 use Rattle.dc_run.specs.Playing.{Visit, run}
 
 -- The loop of a visit, with those inside it.
-abbrev pub loop_at : List Symbol → Source → ℕ → Visit → Parts
-loop_at symbols source turns visit = parts judging (program_forms symbols source turns) greatest_depth visit.loop visit.inside
+abbrev pub loop_at : List Symbol → Source → ℕ → Visit → Loop
+loop_at symbols source turns visit = nested_loop judging (program_forms symbols source turns) greatest_depth visit.loop visit.inside
 
 -- What is said at a visit is the verdict on its loop, and holds in every order of the loop's iterations.
 pub record HoldsAt (symbols : List Symbol) (source : Source) (turns : ℕ) (visit : Visit) : Type 0 where
