@@ -65,12 +65,12 @@ state-contributed x y (run ∷ runs) state =
     ∙ ap (state_after x (flat_map (filter (is_contribution_to y)) runs)) (state-contributions x y run state) ∙ state-contributed x y runs state
 
 state-passed
-    : (known : Localities) (x : ElementId) (runs : List (List Entry)) (elements : List ElementId) (state : Option ℤ)
-    → state_after x (flat_map (passed_to known runs) elements) state ≡ state
-state-passed known x runs [] state = refl
-state-passed known x runs (y ∷ elements) state =
-    state-append x (passed_to known runs y) (flat_map (passed_to known runs) elements) state
-    ∙ ap (state_after x (flat_map (passed_to known runs) elements)) (by (known.passed y.variable)) ∙ state-passed known x runs elements state
+    : (localities : Localities) (x : ElementId) (runs : List (List Entry)) (elements : List ElementId) (state : Option ℤ)
+    → state_after x (flat_map (passed_to localities runs) elements) state ≡ state
+state-passed localities x runs [] state = refl
+state-passed localities x runs (y ∷ elements) state =
+    state-append x (passed_to localities runs y) (flat_map (passed_to localities runs) elements) state
+    ∙ ap (state_after x (flat_map (passed_to localities runs) elements)) (by (localities.passed y.variable)) ∙ state-passed localities x runs elements state
   where
     by : (b : Bool) → state_after x (if b then flat_map (filter (is_contribution_to y)) runs else []) state ≡ state
     by true = state-contributed x y runs state
@@ -102,58 +102,58 @@ any-filter x test (y ∷ elements) = by (same_element x y) refl (test y) refl (a
 -- What the changes leave of an element of the store: it is undefined where two runs touched it and it is
 -- of unspecified locality, and then the reductions are made.
 state-changed
-    : (known : Localities) (line : ℕ) (runs : List (List Entry)) (store : Store) (x : ElementId) (state : Option ℤ) → is_some (cell_of store x) ≡ true
-    → state_after x (changes known line runs store) state
-    ≡ state_after x (reductions known line runs store) (cond (is_unspecified (known.locality x.variable) && is_touched_twice x runs) None state)
-state-changed known line runs store x state some =
-    let undefined = map (λ y. Undefines y line) (forgotten known runs store) in
-    let passed = passed_on known runs store in
-    let defined = reductions known line runs store in
-    let test : ElementId → Bool = λ y. is_unspecified (known.locality y.variable) && is_touched_twice y runs in
-    let among : list_any (same_element x) (forgotten known runs store) ≡ test x =
+    : (localities : Localities) (line : ℕ) (runs : List (List Entry)) (store : Store) (x : ElementId) (state : Option ℤ) → is_some (cell_of store x) ≡ true
+    → state_after x (changes localities line runs store) state
+    ≡ state_after x (reductions localities line runs store) (cond (is_unspecified (localities.locality x.variable) && is_touched_twice x runs) None state)
+state-changed localities line runs store x state some =
+    let undefined = map (λ y. Undefines y line) (forgotten localities runs store) in
+    let passed = passed_on localities runs store in
+    let defined = reductions localities line runs store in
+    let test : ElementId → Bool = λ y. is_unspecified (localities.locality y.variable) && is_touched_twice y runs in
+    let among : list_any (same_element x) (forgotten localities runs store) ≡ test x =
     any-filter x test (elements_of store) ∙ ap (λ b. b && test x) (elements-complete store x some) in
     state-append x undefined (passed ++ defined) state ∙ state-append x passed defined (state_after x undefined state)
-    ∙ ap (state_after x defined) (state-passed known x runs (elements_of store) (state_after x undefined state)
-    ∙ state-undefined x line (forgotten known runs store) state ∙ ap (λ b. cond b None state) among)
+    ∙ ap (state_after x defined) (state-passed localities x runs (elements_of store) (state_after x undefined state)
+    ∙ state-undefined x line (forgotten localities runs store) state ∙ ap (λ b. cond b None state) among)
 
 -- The reductions are made for runs and for a permutation of them, or for neither.
 reductions-alike
-    : (known : Localities) (line : ℕ) (runs others : List (List Entry)) (store left : Store) → IsPermutation runs others
-    → filter_map (reduced known line runs store) (elements_of store) ≡ filter_map (reduced known line others left) (elements_of left)
-    → reductions known line runs store ≡ reductions known line others left
-reductions-alike known line [] [] store left permuted same = refl
-reductions-alike known line [] (other ∷ others) store left permuted same =
+    : (localities : Localities) (line : ℕ) (runs others : List (List Entry)) (store left : Store) → IsPermutation runs others
+    → filter_map (reduced localities line runs store) (elements_of store) ≡ filter_map (reduced localities line others left) (elements_of left)
+    → reductions localities line runs store ≡ reductions localities line others left
+reductions-alike localities line [] [] store left permuted same = refl
+reductions-alike localities line [] (other ∷ others) store left permuted same =
     let long = length_permutation [] (other ∷ others) permuted in absurd (omega arith)
-reductions-alike known line (run ∷ runs) [] store left permuted same =
+reductions-alike localities line (run ∷ runs) [] store left permuted same =
     let long = length_permutation (run ∷ runs) [] permuted in absurd (omega arith)
-reductions-alike known line (run ∷ runs) (other ∷ others) store left permuted same = same
+reductions-alike localities line (run ∷ runs) (other ∷ others) store left permuted same = same
 
 -- ---- in another order
 
-module _ (known : Localities) (line : ℕ) (store : Store) (runs others : List (List Entry)) (permuted : IsPermutation runs others)
-    (unbroken : (x : ElementId) → is_some (cell_of store x) ≡ true → clashes (known.locality x.variable) x runs ≡ false)
-    (allowed : (x : ElementId) → may_touch (known.locality x.variable) ≡ false → list_any (touches x) runs ≡ false)
-    (allowed_too : (x : ElementId) → may_touch (known.locality x.variable) ≡ false → list_any (touches x) others ≡ false)
-    (own : All (All (IsCombinable known)) runs) (holds : HoldsCombinable known store) where
-  reductions-same : reductions known line runs (left_by runs store) ≡ reductions known line others (left_by others store)
+module _ (localities : Localities) (line : ℕ) (store : Store) (runs others : List (List Entry)) (permuted : IsPermutation runs others)
+    (unbroken : (x : ElementId) → is_some (cell_of store x) ≡ true → clashes (localities.locality x.variable) x runs ≡ false)
+    (allowed : (x : ElementId) → may_touch (localities.locality x.variable) ≡ false → list_any (touches x) runs ≡ false)
+    (allowed_too : (x : ElementId) → may_touch (localities.locality x.variable) ≡ false → list_any (touches x) others ≡ false)
+    (own : All (All (IsCombinable localities)) runs) (holds : HoldsCombinable localities store) where
+  reductions-same : reductions localities line runs (left_by runs store) ≡ reductions localities line others (left_by others store)
   reductions-same =
-      let each = reduced-permuted known line runs others store permuted own holds allowed allowed_too in
+      let each = reduced-permuted localities line runs others store permuted own holds allowed allowed_too in
       let elements : elements_of (left_by runs store) ≡ elements_of (left_by others store) =
       elements-left runs store ∙ sym (elements-left others store) in
-      reductions-alike known line runs others (left_by runs store) (left_by others store) permuted (λ i. filter_map (λ x. each x i) (elements i))
+      reductions-alike localities line runs others (left_by runs store) (left_by others store) permuted (λ i. filter_map (λ x. each x i) (elements i))
 
   -- an element that two runs touch is of unspecified locality
   twice-unspecified
-      : (x : ElementId) → is_some (cell_of store x) ≡ true → is_touched_twice x runs ≡ true → is_unspecified (known.locality x.variable) ≡ true
-  twice-unspecified x some twice = by (known.locality x.variable) refl
+      : (x : ElementId) → is_some (cell_of store x) ≡ true → is_touched_twice x runs ≡ true → is_unspecified (localities.locality x.variable) ≡ true
+  twice-unspecified x some twice = by (localities.locality x.variable) refl
     where
-      never : may_touch (known.locality x.variable) ≡ false → is_unspecified (known.locality x.variable) ≡ true
+      never : may_touch (localities.locality x.variable) ≡ false → is_unspecified (localities.locality x.variable) ≡ true
       never kept_out = absurd (false≢true (sym (allowed x kept_out) ∙ twice-touched x runs twice))
 
-      by : (locality : Locality) → known.locality x.variable ≡ locality → is_unspecified (known.locality x.variable) ≡ true
+      by : (locality : Locality) → localities.locality x.variable ≡ locality → is_unspecified (localities.locality x.variable) ≡ true
       by Locality.Plain is = ap is_unspecified is
       by Locality.Shared is =
-          let clash : clashes (known.locality x.variable) x runs ≡ true = ap (λ l. clashes l x runs) is ∙ twice-clashes x runs twice in
+          let clash : clashes (localities.locality x.variable) x runs ≡ true = ap (λ l. clashes l x runs) is ∙ twice-clashes x runs twice in
           absurd (false≢true (sym (unbroken x some) ∙ clash))
       by Locality.Local is = never (ap may_touch is)
       by Locality.LocalInit is = never (ap may_touch is)
@@ -161,22 +161,22 @@ module _ (known : Localities) (line : ℕ) (store : Store) (runs others : List (
 
   state-same
       : (x : ElementId) (state : Option ℤ) → is_some (cell_of store x) ≡ true
-      → cond (is_unspecified (known.locality x.variable) && is_touched_twice x runs) None (state_left x runs state)
-      ≡ cond (is_unspecified (known.locality x.variable) && is_touched_twice x others) None (state_left x others state)
+      → cond (is_unspecified (localities.locality x.variable) && is_touched_twice x runs) None (state_left x runs state)
+      ≡ cond (is_unspecified (localities.locality x.variable) && is_touched_twice x others) None (state_left x others state)
   state-same x state some =
-      ap (λ b. cond (is_unspecified (known.locality x.variable) && b) None (state_left x runs state)) (twice-permuted x runs others permuted)
+      ap (λ b. cond (is_unspecified (localities.locality x.variable) && b) None (state_left x runs state)) (twice-permuted x runs others permuted)
       ∙ by (is_touched_twice x runs) refl
     where
       by
           : (b : Bool) → is_touched_twice x runs ≡ b
-          → cond (is_unspecified (known.locality x.variable) && is_touched_twice x others) None (state_left x runs state)
-          ≡ cond (is_unspecified (known.locality x.variable) && is_touched_twice x others) None (state_left x others state)
+          → cond (is_unspecified (localities.locality x.variable) && is_touched_twice x others) None (state_left x runs state)
+          ≡ cond (is_unspecified (localities.locality x.variable) && is_touched_twice x others) None (state_left x others state)
       by true twice =
-          let here : is_unspecified (known.locality x.variable) ≡ true = twice-unspecified x some twice in
+          let here : is_unspecified (localities.locality x.variable) ≡ true = twice-unspecified x some twice in
           let there : is_touched_twice x others ≡ true = sym (twice-permuted x runs others permuted) ∙ twice in
           rw (here, there) refl
       by false once =
-          ap (cond (is_unspecified (known.locality x.variable) && is_touched_twice x others) None) (left-permuted x runs others permuted once state)
+          ap (cond (is_unspecified (localities.locality x.variable) && is_touched_twice x others) None) (left-permuted x runs others permuted once state)
 
   -- whether an element is in the store that the runs leave
   some-left : (list : List (List Entry)) (x : ElementId) → is_some (cell_of (left_by list store) x) ≡ is_some (cell_of store x)
@@ -186,34 +186,34 @@ module _ (known : Localities) (line : ℕ) (store : Store) (runs others : List (
       mapped None = refl
       mapped (Some state) = refl
 
-  cell-closing : (list : List (List Entry)) (x : ElementId) → cell_of (closing known line list (left_by list store)) x
-      ≡ option_map (state_after x (changes known line list (left_by list store))) (option_map (state_left x list) (cell_of store x))
+  cell-closing : (list : List (List Entry)) (x : ElementId) → cell_of (closing localities line list (left_by list store)) x
+      ≡ option_map (state_after x (changes localities line list (left_by list store))) (option_map (state_left x list) (cell_of store x))
   cell-closing list x =
-      cell-after (changes known line list (left_by list store)) (left_by list store) x
-      ∙ ap (option_map (state_after x (changes known line list (left_by list store)))) (cell-left list store x)
+      cell-after (changes localities line list (left_by list store)) (left_by list store) x
+      ∙ ap (option_map (state_after x (changes localities line list (left_by list store)))) (cell-left list store x)
 
   cells-same
-      : (x : ElementId) → cell_of (closing known line runs (left_by runs store)) x ≡ cell_of (closing known line others (left_by others store)) x
+      : (x : ElementId) → cell_of (closing localities line runs (left_by runs store)) x ≡ cell_of (closing localities line others (left_by others store)) x
   cells-same x = cell-closing runs x ∙ by (cell_of store x) refl ∙ sym (cell-closing others x)
     where
       by
           : (cell : Option (Option ℤ)) → cell_of store x ≡ cell
-          → option_map (state_after x (changes known line runs (left_by runs store))) (option_map (state_left x runs) cell)
-          ≡ option_map (state_after x (changes known line others (left_by others store))) (option_map (state_left x others) cell)
+          → option_map (state_after x (changes localities line runs (left_by runs store))) (option_map (state_left x runs) cell)
+          ≡ option_map (state_after x (changes localities line others (left_by others store))) (option_map (state_left x others) cell)
       by None is = refl
       by (Some state) is =
           let some : is_some (cell_of store x) ≡ true = ap is_some is in
           ap (λ (s : Option ℤ). Some s)
-          (state-changed known line runs (left_by runs store) x (state_left x runs state) (some-left runs x ∙ some)
+          (state-changed localities line runs (left_by runs store) x (state_left x runs state) (some-left runs x ∙ some)
           ∙ (λ i. state_after x (reductions-same i) (state-same x state some i))
-          ∙ sym (state-changed known line others (left_by others store) x (state_left x others state) (some-left others x ∙ some)))
+          ∙ sym (state-changed localities line others (left_by others store) x (state_left x others state) (some-left others x ∙ some)))
 
   -- The closing store of runs and of a permutation of them is the same.
-  pub closing-permuted : closing known line runs (left_by runs store) ≡ closing known line others (left_by others store)
+  pub closing-permuted : closing localities line runs (left_by runs store) ≡ closing localities line others (left_by others store)
   closing-permuted =
-      store-same (closing known line runs (left_by runs store)) (closing known line others (left_by others store))
-      (length-after (changes known line runs (left_by runs store)) (left_by runs store) ∙ length-left runs store
-      ∙ sym (length-after (changes known line others (left_by others store)) (left_by others store) ∙ length-left others store))
-      (λ v. bounds-after (changes known line runs (left_by runs store)) (left_by runs store) v ∙ bounds-left runs store v
-      ∙ sym (bounds-after (changes known line others (left_by others store)) (left_by others store) v ∙ bounds-left others store v))
+      store-same (closing localities line runs (left_by runs store)) (closing localities line others (left_by others store))
+      (length-after (changes localities line runs (left_by runs store)) (left_by runs store) ∙ length-left runs store
+      ∙ sym (length-after (changes localities line others (left_by others store)) (left_by others store) ∙ length-left others store))
+      (λ v. bounds-after (changes localities line runs (left_by runs store)) (left_by runs store) v ∙ bounds-left runs store v
+      ∙ sym (bounds-after (changes localities line others (left_by others store)) (left_by others store) v ∙ bounds-left others store v))
       cells-same

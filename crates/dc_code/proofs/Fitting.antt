@@ -16,18 +16,18 @@ use Rattle.dc_int.specs.Shapes.{store_fits, state_fits, entry_fits}
 use Rattle.dc_int.specs.Store.{Store, cell_of, value_at, put_at, bounds_of, number_in, same_element, elements_of}
 use Rattle.dc_int.proofs.Fits.{fits-put, fits-after, fits-state, undefined-fits}
 use Rattle.dc_int.proofs.Reductions.{combined-inside}
-use Rattle.dc_code.specs.Closing.{Localities, contributed, combined_with, own_operation, reduced, reductions, is_contribution_to, passed_to, passed_on, forgotten, changes}
+use Rattle.dc_code.specs.Closing.{Localities, contributed, combined_with, operation_here, reduced, reductions, is_contribution_to, passed_to, passed_on, forgotten, changes}
 use Rattle.dc_code.specs.Computation.{Computation, give, fail, read, define, undefine, contribute, ask, pause, Reached, done, bad, paused, over}
-use Rattle.dc_code.specs.Inner.{Rule, judging, in_order, parts_with}
+use Rattle.dc_code.specs.Inner.{Rule, judging, in_order, loop_with}
 use Rattle.dc_code.specs.Laws.{HasPlainBlocks, MatchesShapes, KeepsFitting, DefinesFitting}
-use Rattle.dc_code.specs.Loops.{Form, Copies, Opened, opened, Orders, Passage, Parts, Ordered, order, closed, joined, nothing_done}
+use Rattle.dc_code.specs.Loops.{Form, Copies, HeaderResult, header_of, Orders, Passage, Loop, Ordered, order, closed, joined, nothing_done}
 use Rattle.dc_code.specs.Orders.{turned}
 use Rattle.dc_code.specs.Passages.{Entering}
 use Rattle.dc_code.specs.Troubles.{Trouble}
 use Rattle.dc_code.specs.Verdicts.{Verdict, go_on, at_header, in_iteration, race, verdict, visited_by, judged_by}
 use Rattle.dc_code.specs.Visits.{visited, visited_in, visited_turned}
 use Rattle.dc_code.proofs.Passages.{through-over}
-use Rattle.dc_code.proofs.Reduced.{HoldsCombinable, fits-holds, own-is, defined_by, reduced-is}
+use Rattle.dc_code.proofs.Reduced.{HoldsCombinable, fits-holds, here-is, defined_by, reduced-is}
 
 -- ---- computations
 
@@ -59,7 +59,7 @@ over-fits shapes store (pause event rest) defines fits = fits
 -- So do the iterations of a loop whose blocks are such.
 pub plain-fits
     : (shapes : List Shape) (enter : Entering) (form : Form) → HasPlainBlocks form
-    → ((copies : Copies) (at : List ℤ) → DefinesFitting shapes (form.block copies at)) → KeepsFitting shapes (parts_with enter form)
+    → ((copies : Copies) (at : List ℤ) → DefinesFitting shapes (form.block copies at)) → KeepsFitting shapes (loop_with enter form)
 plain-fits shapes enter form plain defines = record {
   each = λ store orders at fits.
       let copies : Copies = map (value_at store) form.copied in
@@ -99,12 +99,12 @@ contributed-fit shapes y (run ∷ runs) =
     (contributed-fit shapes y runs)
 
 passed-fit
-    : (shapes : List Shape) (known : Localities) (runs : List (List Entry)) (elements : List ElementId)
-    → list_all (entry_fits shapes) (flat_map (passed_to known runs) elements) ≡ true
-passed-fit shapes known runs [] = refl
-passed-fit shapes known runs (x ∷ elements) =
-    all-append (entry_fits shapes) (passed_to known runs x) (flat_map (passed_to known runs) elements) (by (known.passed x.variable))
-    (passed-fit shapes known runs elements)
+    : (shapes : List Shape) (localities : Localities) (runs : List (List Entry)) (elements : List ElementId)
+    → list_all (entry_fits shapes) (flat_map (passed_to localities runs) elements) ≡ true
+passed-fit shapes localities runs [] = refl
+passed-fit shapes localities runs (x ∷ elements) =
+    all-append (entry_fits shapes) (passed_to localities runs x) (flat_map (passed_to localities runs) elements) (by (localities.passed x.variable))
+    (passed-fit shapes localities runs elements)
   where
     by : (b : Bool) → list_all (entry_fits shapes) (if b then flat_map (filter (is_contribution_to x)) runs else []) ≡ true
     by true = contributed-fit shapes x runs
@@ -119,9 +119,9 @@ combined-with_inside op kind value (other ∷ others) can =
 
 -- A value that the operation of a REDUCE variable combines is one of the variable.
 combinable-fits
-    : (shapes : List Shape) (known : Localities) → MatchesShapes known shapes → (x : ElementId) (op : ReduceOp) (value : ℤ)
-    → known.locality x.variable ≡ Locality.Reduce op → can_combine op (known.kind x.variable) value ≡ true → state_fits shapes x (Some value) ≡ true
-combinable-fits shapes known matches x op value is can = by (slice_get shapes x.variable) refl
+    : (shapes : List Shape) (localities : Localities) → MatchesShapes localities shapes → (x : ElementId) (op : ReduceOp) (value : ℤ)
+    → localities.locality x.variable ≡ Locality.Reduce op → can_combine op (localities.kind x.variable) value ≡ true → state_fits shapes x (Some value) ≡ true
+combinable-fits shapes localities matches x op value is can = by (slice_get shapes x.variable) refl
   where
     by : (found : Option Shape) → slice_get shapes x.variable ≡ found → state_fits shapes x (Some value) ≡ true
     by None found = rw found refl
@@ -129,50 +129,50 @@ combinable-fits shapes known matches x op value is can = by (slice_get shapes x.
         let same = matches.reduces x.variable op shape is found in
         rw found ((λ i. value_fits (sym same.0 i) (sym same.1 i) value) ∙ can)
 
-module _ (shapes : List Shape) (known : Localities) (matches : MatchesShapes known shapes) (line : ℕ) (runs : List (List Entry)) (store : Store)
-    (holds : HoldsCombinable known store) where
-  reduced-fits : (x : ElementId) (entry : Entry) → reduced known line runs store x ≡ Some entry → entry_fits shapes entry ≡ true
-  reduced-fits x entry told = by (own_operation known x.variable) (value_at store x) refl refl (sym (reduced-is known line runs store x) ∙ told)
+module _ (shapes : List Shape) (localities : Localities) (matches : MatchesShapes localities shapes) (line : ℕ) (runs : List (List Entry)) (store : Store)
+    (holds : HoldsCombinable localities store) where
+  reduced-fits : (x : ElementId) (entry : Entry) → reduced localities line runs store x ≡ Some entry → entry_fits shapes entry ≡ true
+  reduced-fits x entry told = by (operation_here localities x.variable) (value_at store x) refl refl (sym (reduced-is localities line runs store x) ∙ told)
     where
       by
-          : (op : Option ReduceOp) (value : Option ℤ) → own_operation known x.variable ≡ op → value_at store x ≡ value
-          → defined_by known line runs x op value ≡ Some entry → entry_fits shapes entry ≡ true
+          : (op : Option ReduceOp) (value : Option ℤ) → operation_here localities x.variable ≡ op → value_at store x ≡ value
+          → defined_by localities line runs x op value ≡ Some entry → entry_fits shapes entry ≡ true
       by None value op_is value_is e = absurd (none-some entry e)
       by (Some op) None op_is value_is e = absurd (none-some entry e)
       by (Some op) (Some value) op_is value_is e =
-          let is = own-is known x.variable op op_is in
-          let after : ℤ = combined_with op (known.kind x.variable) value (contributed x runs) in
-          let inside = combined-with_inside op (known.kind x.variable) value (contributed x runs) (holds x op value is value_is) in
-          ap (entry_fits shapes) (sym (same_Some (Defines x after line) entry e)) ∙ combinable-fits shapes known matches x op after is inside
+          let is = here-is localities x.variable op op_is in
+          let after : ℤ = combined_with op (localities.kind x.variable) value (contributed x runs) in
+          let inside = combined-with_inside op (localities.kind x.variable) value (contributed x runs) (holds x op value is value_is) in
+          ap (entry_fits shapes) (sym (same_Some (Defines x after line) entry e)) ∙ combinable-fits shapes localities matches x op after is inside
 
-  all-reduced-fit : (elements : List ElementId) → list_all (entry_fits shapes) (filter_map (reduced known line runs store) elements) ≡ true
+  all-reduced-fit : (elements : List ElementId) → list_all (entry_fits shapes) (filter_map (reduced localities line runs store) elements) ≡ true
   all-reduced-fit [] = refl
-  all-reduced-fit (x ∷ elements) = by (reduced known line runs store x) refl (all-reduced-fit elements)
+  all-reduced-fit (x ∷ elements) = by (reduced localities line runs store x) refl (all-reduced-fit elements)
     where
       by
-          : (told : Option Entry) → reduced known line runs store x ≡ told → list_all (entry_fits shapes) (filter_map (reduced known line runs store) elements) ≡ true
-          → list_all (entry_fits shapes) (filter_map (reduced known line runs store) (x ∷ elements)) ≡ true
+          : (told : Option Entry) → reduced localities line runs store x ≡ told → list_all (entry_fits shapes) (filter_map (reduced localities line runs store) elements) ≡ true
+          → list_all (entry_fits shapes) (filter_map (reduced localities line runs store) (x ∷ elements)) ≡ true
       by None is rest = rw is rest
       by (Some entry) is rest = rw is (ap₂ (λ a b. a && b) (reduced-fits x entry is) rest)
 
 reductions-fit
-    : (shapes : List Shape) (known : Localities) → MatchesShapes known shapes → (line : ℕ) (runs : List (List Entry)) (store : Store) → HoldsCombinable known store
-    → list_all (entry_fits shapes) (reductions known line runs store) ≡ true
-reductions-fit shapes known matches line [] store holds = refl
-reductions-fit shapes known matches line (run ∷ runs) store holds = all-reduced-fit shapes known matches line (run ∷ runs) store holds (elements_of store)
+    : (shapes : List Shape) (localities : Localities) → MatchesShapes localities shapes → (line : ℕ) (runs : List (List Entry)) (store : Store) → HoldsCombinable localities store
+    → list_all (entry_fits shapes) (reductions localities line runs store) ≡ true
+reductions-fit shapes localities matches line [] store holds = refl
+reductions-fit shapes localities matches line (run ∷ runs) store holds = all-reduced-fit shapes localities matches line (run ∷ runs) store holds (elements_of store)
 
 changes-fit
-    : (shapes : List Shape) (known : Localities) → MatchesShapes known shapes → (line : ℕ) (runs : List (List Entry)) (store : Store)
-    → store_fits shapes store ≡ true → list_all (entry_fits shapes) (changes known line runs store) ≡ true
-changes-fit shapes known matches line runs store fits =
-    all-append (entry_fits shapes) (map (λ x. Undefines x line) (forgotten known runs store)) (passed_on known runs store ++ reductions known line runs store)
-    (undefined-fit shapes line (forgotten known runs store))
-    (all-append (entry_fits shapes) (passed_on known runs store) (reductions known line runs store) (passed-fit shapes known runs (elements_of store))
-    (reductions-fit shapes known matches line runs store (fits-holds known shapes store matches fits)))
+    : (shapes : List Shape) (localities : Localities) → MatchesShapes localities shapes → (line : ℕ) (runs : List (List Entry)) (store : Store)
+    → store_fits shapes store ≡ true → list_all (entry_fits shapes) (changes localities line runs store) ≡ true
+changes-fit shapes localities matches line runs store fits =
+    all-append (entry_fits shapes) (map (λ x. Undefines x line) (forgotten localities runs store)) (passed_on localities runs store ++ reductions localities line runs store)
+    (undefined-fit shapes line (forgotten localities runs store))
+    (all-append (entry_fits shapes) (passed_on localities runs store) (reductions localities line runs store) (passed-fit shapes localities runs (elements_of store))
+    (reductions-fit shapes localities matches line runs store (fits-holds localities shapes store matches fits)))
 
 -- ---- orders and visits
 
-module _ (shapes : List Shape) (loop : Parts) (matches : MatchesShapes loop.form.known shapes) (keeps : KeepsFitting shapes loop) where
+module _ (shapes : List Shape) (loop : Loop) (matches : MatchesShapes loop.form.localities shapes) (keeps : KeepsFitting shapes loop) where
   order-fits
       : (orders : Orders) (store : Store) (iterations : List (List ℤ)) → store_fits shapes store ≡ true
       → store_fits shapes (order loop orders store iterations).store ≡ true
@@ -194,18 +194,18 @@ module _ (shapes : List Shape) (loop : Parts) (matches : MatchesShapes loop.form
   closed-fits orders store iterations fits =
       let ordered = order loop orders store iterations in
       let left = order-fits orders store iterations fits in
-      fits-after shapes ordered.store (changes loop.form.known loop.form.line ordered.runs ordered.store) left
-      (changes-fit shapes loop.form.known matches loop.form.line ordered.runs ordered.store left)
+      fits-after shapes ordered.store (changes loop.form.localities loop.form.line ordered.runs ordered.store) left
+      (changes-fit shapes loop.form.localities matches loop.form.line ordered.runs ordered.store left)
 
-  said-fits : (store : Store) (opening : Opened) (said : Verdict) → store_fits shapes store ≡ true → store_fits shapes (visited_by loop store opening said).store ≡ true
-  said-fits store opening go_on fits = closed-fits [] store opening.iterations fits
-  said-fits store opening (at_header trouble) fits = fits
-  said-fits store opening (in_iteration trouble at) fits = fits
-  said-fits store opening (race found first second) fits = fits
+  said-fits : (store : Store) (given : HeaderResult) (said : Verdict) → store_fits shapes store ≡ true → store_fits shapes (visited_by loop store given said).store ≡ true
+  said-fits store given go_on fits = closed-fits [] store given.iterations fits
+  said-fits store given (at_header trouble) fits = fits
+  said-fits store given (in_iteration trouble at) fits = fits
+  said-fits store given (race found first second) fits = fits
 
-  judged-fits : (store : Store) (reached : Reached ⊥ Trouble Opened) → store_fits shapes store ≡ true → store_fits shapes (judged_by loop store reached).store ≡ true
+  judged-fits : (store : Store) (reached : Reached ⊥ Trouble HeaderResult) → store_fits shapes store ≡ true → store_fits shapes (judged_by loop store reached).store ≡ true
   judged-fits store (bad trouble) fits = fits
-  judged-fits store (done opening) fits = said-fits store opening (verdict loop store opening.iterations) fits
+  judged-fits store (done given) fits = said-fits store given (verdict loop store given.iterations) fits
   judged-fits store (paused event rest) fits = absurd event
 
   in-fits
@@ -223,13 +223,13 @@ module _ (shapes : List Shape) (loop : Parts) (matches : MatchesShapes loop.form
       by None met at is = rw met (closed-fits [] store iterations fits)
 
   turned-fits
-      : (number : ℕ) (store : Store) (reached : Reached ⊥ Trouble Opened) → store_fits shapes store ≡ true
+      : (number : ℕ) (store : Store) (reached : Reached ⊥ Trouble HeaderResult) → store_fits shapes store ≡ true
       → store_fits shapes (visited_turned number loop store reached).store ≡ true
   turned-fits number store (bad trouble) fits = fits
-  turned-fits number store (done opening) fits = in-fits store opening.turns (turned number opening.iterations) fits
+  turned-fits number store (done given) fits = in-fits store given.turns (turned number given.iterations) fits
   turned-fits number store (paused event rest) fits = absurd event
 
   -- A visit leaves a store that fits.
   pub visited-fits : (rule : Rule) (turns : ℕ) (store : Store) → store_fits shapes store ≡ true → store_fits shapes (visited rule loop turns store).store ≡ true
-  visited-fits judging turns store fits = judged-fits store (over store (opened loop.form turns)).reached fits
-  visited-fits (in_order number) turns store fits = turned-fits number store (over store (opened loop.form turns)).reached fits
+  visited-fits judging turns store fits = judged-fits store (over store (header_of loop.form turns)).reached fits
+  visited-fits (in_order number) turns store fits = turned-fits number store (over store (header_of loop.form turns)).reached fits

@@ -9,18 +9,18 @@ use Rattle.dc_int.specs.Entries.{Entry, Reads, Defines, Undefines, Contributes, 
 use Rattle.dc_int.specs.Store.{Store, same_element}
 use Rattle.dc_int.proofs.Stores.{same_element-is}
 use Rattle.dc_code.specs.Laws.{IsCombinable, KeepsLocality, may_touch}
-use Rattle.dc_code.specs.Loops.{Form, Parts, alone}
+use Rattle.dc_code.specs.Loops.{Form, Loop, alone}
 
 -- The element may be touched, and no LOCAL_INIT entity copies it.
 pub record MayTouch (form : Form) (x : ElementId) : Type 0 where
-  pub allowed : may_touch (form.known.locality x.variable) ≡ true
+  pub allowed : may_touch (form.localities.locality x.variable) ≡ true
   pub apart : list_any (same_element x) form.copied ≡ false
 
 abbrev pub KeepsIt : Form → Entry → Type 0
 KeepsIt form (Reads x line) = Unit
 KeepsIt form (Defines x value line) = MayTouch form x
 KeepsIt form (Undefines x line) = MayTouch form x
-KeepsIt form (Contributes x op value) = IsCombinable form.known (Contributes x op value)
+KeepsIt form (Contributes x op value) = IsCombinable form.localities (Contributes x op value)
 
 touched-may : (form : Form) (x : ElementId) (entries : List Entry) → All (KeepsIt form) entries → touches x entries ≡ true → MayTouch form x
 touched-may form x [] all touched = absurd (false≢true touched)
@@ -46,24 +46,24 @@ touched-may form x (Undefines y line ∷ entries) all touched =
 touched-may form x (Contributes y op value ∷ entries) all touched =
     touched-may form x entries (All-tail (KeepsIt form) (Contributes y op value) entries all) touched
 
-all-combinable : (form : Form) (entries : List Entry) → All (KeepsIt form) entries → All (IsCombinable form.known) entries
-all-combinable form [] all = All-nil (IsCombinable form.known)
+all-combinable : (form : Form) (entries : List Entry) → All (KeepsIt form) entries → All (IsCombinable form.localities) entries
+all-combinable form [] all = All-nil (IsCombinable form.localities)
 all-combinable form (entry ∷ entries) all =
-    All-cons (IsCombinable form.known) entry entries (by entry (All-head (KeepsIt form) entry entries all))
+    All-cons (IsCombinable form.localities) entry entries (by entry (All-head (KeepsIt form) entry entries all))
     (all-combinable form entries (All-tail (KeepsIt form) entry entries all))
   where
-    by : (one : Entry) → KeepsIt form one → IsCombinable form.known one
+    by : (one : Entry) → KeepsIt form one → IsCombinable form.localities one
     by (Reads x line) keeps = tt
     by (Defines x value line) keeps = tt
     by (Undefines x line) keeps = tt
     by (Contributes x op value) keeps = keeps
 
 -- So the iteration keeps them.
-pub keeps-entries : (parts : Parts) (store : Store) (at : List ℤ) → All (KeepsIt parts.form) (alone parts store at).entries → KeepsLocality parts store at
-keeps-entries parts store at all = record {
-  allowed = λ x touched. (touched-may parts.form x (alone parts store at).entries all touched).allowed;
-  apart = λ x touched. (touched-may parts.form x (alone parts store at).entries all touched).apart;
-  contributed = all-combinable parts.form (alone parts store at).entries all;
+pub keeps-entries : (loop : Loop) (store : Store) (at : List ℤ) → All (KeepsIt loop.form) (alone loop store at).entries → KeepsLocality loop store at
+keeps-entries loop store at all = record {
+  allowed = λ x touched. (touched-may loop.form x (alone loop store at).entries all touched).allowed;
+  apart = λ x touched. (touched-may loop.form x (alone loop store at).entries all touched).apart;
+  contributed = all-combinable loop.form (alone loop store at).entries all;
 }
 
 -- Where each iteration there can be keeps them, these do.

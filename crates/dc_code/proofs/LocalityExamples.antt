@@ -20,9 +20,9 @@ use Rattle.dc_code.specs.Closing.{Localities}
 use Rattle.dc_code.specs.Combinations.{Span}
 use Rattle.dc_code.specs.Computation.{give, fail, read, define, contribute}
 use Rattle.dc_code.specs.EveryOrder.{SaysOfOrders}
-use Rattle.dc_code.specs.Inner.{judging, parts_with}
+use Rattle.dc_code.specs.Inner.{judging, loop_with}
 use Rattle.dc_code.specs.Laws.{NeverPauses, HasPlainBlocks, KeepsLocality, MatchesShapes, EndsAlike}
-use Rattle.dc_code.specs.Loops.{Form, Copies, Parts}
+use Rattle.dc_code.specs.Loops.{Form, Copies, Loop}
 use Rattle.dc_code.specs.Passages.{Entering, ended_well}
 use Rattle.dc_code.specs.Troubles.{Computing}
 use Rattle.dc_code.specs.Verdicts.{go_on, verdict}
@@ -107,20 +107,20 @@ three = (pos 0 ∷ []) ∷ (pos 1 ∷ []) ∷ (pos 2 ∷ []) ∷ []
 abbrev no_loop : Entering
 no_loop number turns slots store orders = ended_well store turns orders
 
-abbrev loop_of : Form → Parts
-loop_of form = parts_with no_loop form
+abbrev loop_of : Form → Loop
+loop_of form = loop_with no_loop form
 
 -- What the laws ask of a form, over the store above.
 record Meets (form : Form) : Type 0 where
   plain : HasPlainBlocks form
   keeps : (at : List ℤ) → KeepsLocality (loop_of form) wide at
-  matches : MatchesShapes form.known shapes
+  matches : MatchesShapes form.localities shapes
 
 -- What is said of the loop holds in every order.
 says : (form : Form) → Meets form → (turns : ℕ) → SaysOfOrders (loop_of form) turns wide
 says form meets turns =
     says-of-orders (loop_of form) wide (plain-framed no_loop form meets.plain) (plain-differs no_loop form meets.plain)
-    (fits-holds form.known shapes wide meets.matches wide_fits) turns
+    (fits-holds form.localities shapes wide meets.matches wide_fits) turns
     (all-keep (KeepsLocality (loop_of form) wide) _ meets.keeps)
 
 -- A loop that goes on with three iterations may be run backward.
@@ -128,7 +128,7 @@ backward
     : (form : Form) → Meets form → verdict (loop_of form) wide three ≡ go_on → EndsAlike (loop_of form) wide three (reverse three)
 backward form meets goes =
     goes-on_alike (loop_of form) wide (plain-framed no_loop form meets.plain) (plain-differs no_loop form meets.plain)
-    (fits-holds form.known shapes wide meets.matches wide_fits) three (all-keep (KeepsLocality (loop_of form) wide) three meets.keeps) goes
+    (fits-holds form.localities shapes wide meets.matches wide_fits) three (all-keep (KeepsLocality (loop_of form) wide) three meets.keeps) goes
     (reverse three) (IsPermutation-reverse three)
 
 -- ---- `a(i) = t`, where `t` is SHARED
@@ -140,7 +140,7 @@ with_shared other = Locality.Plain
 abbrev shared : Form
 shared = record {
   line = 3;
-  known = all_of_kind_4 with_shared;
+  localities = all_of_kind_4 with_shared;
   copied = [];
   combines = [];
   header = λ turns. give (counted 2 ∷ [], turns);
@@ -155,7 +155,7 @@ shared_keeps at =
     (All-cons (KeepsIt shared) (Reads t 5) (Defines (a (index 0 at)) (pos 4) 5 ∷ []) tt
     (All-cons (KeepsIt shared) (Defines (a (index 0 at)) (pos 4) 5) [] (record { allowed = refl; apart = refl }) (All-nil (KeepsIt shared))))
 
-shared_matches : MatchesShapes shared.known shapes
+shared_matches : MatchesShapes shared.localities shapes
 shared_matches = record { reduces = by }
   where
     by
@@ -188,7 +188,7 @@ with_local_init other = Locality.Plain
 abbrev copying : Form
 copying = record {
   line = 3;
-  known = all_of_kind_4 with_local_init;
+  localities = all_of_kind_4 with_local_init;
   copied = q ∷ [];
   combines = [];
   header = λ turns. give (counted 2 ∷ [], turns);
@@ -202,7 +202,7 @@ copying_keeps at =
     keeps-entries (loop_of copying) wide at
     (All-cons (KeepsIt copying) (Defines (a (index 0 at)) (pos 0) 5) [] (record { allowed = refl; apart = refl }) (All-nil (KeepsIt copying)))
 
-copying_matches : MatchesShapes copying.known shapes
+copying_matches : MatchesShapes copying.localities shapes
 copying_matches = record { reduces = by }
   where
     by
@@ -236,7 +236,7 @@ unspecified variable = Locality.Plain
 abbrev masked : Form
 masked = record {
   line = 3;
-  known = all_of_kind_4 unspecified;
+  localities = all_of_kind_4 unspecified;
   copied = [];
   combines = [];
   header = λ turns. give (counted 2 ∷ [], turns);
@@ -244,7 +244,7 @@ masked = record {
   block = λ copies at. define (a (index 0 at)) (pos 1) 5 (give 9);
 }
 
-masked_matches : MatchesShapes masked.known shapes
+masked_matches : MatchesShapes masked.localities shapes
 masked_matches = record { reduces = λ variable op shape reduces declared. cc }
 
 masked_meets : Meets masked
@@ -269,7 +269,7 @@ masked_says = says masked masked_meets 9
 abbrev two_indexes : Form
 two_indexes = record {
   line = 3;
-  known = all_of_kind_4 unspecified;
+  localities = all_of_kind_4 unspecified;
   copied = [];
   combines = [];
   header = λ turns. give (counted 1 ∷ counted 1 ∷ [], turns);
@@ -304,7 +304,7 @@ with_and other = Locality.Plain
 abbrev conjunction : Form
 conjunction = record {
   line = 3;
-  known = all_of_kind_4 with_and;
+  localities = all_of_kind_4 with_and;
   copied = q ∷ [];
   combines = l ∷ [];
   header = λ turns. give (counted 2 ∷ [], turns);
@@ -318,7 +318,7 @@ conjunction_keeps at =
     keeps-entries (loop_of conjunction) wide at
     (All-cons (KeepsIt conjunction) (Contributes l ReduceOp.And (pos 0)) [] (refl, refl) (All-nil (KeepsIt conjunction)))
 
-conjunction_matches : MatchesShapes conjunction.known shapes
+conjunction_matches : MatchesShapes conjunction.localities shapes
 conjunction_matches = record { reduces = by }
   where
     by

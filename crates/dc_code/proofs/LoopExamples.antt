@@ -20,9 +20,9 @@ use Rattle.dc_int.specs.Shapes.{store_fits}
 use Rattle.dc_int.specs.Store.{Store, cell_of, value_at, put_at}
 use Rattle.dc_code.specs.Combinations.{Span}
 use Rattle.dc_code.specs.Computation.{give, fail, read, define, contribute, pause}
-use Rattle.dc_code.specs.Inner.{parts_with}
+use Rattle.dc_code.specs.Inner.{loop_with}
 use Rattle.dc_code.specs.Laws.{HasPlainBlocks, KeepsLocality, MatchesShapes, EndsAlike}
-use Rattle.dc_code.specs.Loops.{Form, Parts, alone}
+use Rattle.dc_code.specs.Loops.{Form, Loop, alone}
 use Rattle.dc_code.specs.Passages.{Entering, ended_well}
 use Rattle.dc_code.specs.Troubles.{Computing, ended, stop}
 use Rattle.dc_code.specs.Verdicts.{go_on, at_header, in_iteration, race, verdict, stays, judgement}
@@ -51,7 +51,7 @@ locality (suc variable) = Locality.Reduce ReduceOp.Add
 abbrev form_of : (List ℤ → Computing ℕ) → Form
 form_of block = record {
   line = 3;
-  known = record { locality = locality; kind = λ variable. Kind.K4; passed = λ variable. false };
+  localities = record { locality = locality; kind = λ variable. Kind.K4; passed = λ variable. false };
   copied = [];
   combines = t ∷ [];
   header = λ turns. give ([], turns);
@@ -62,8 +62,8 @@ form_of block = record {
 abbrev no_loop : Entering
 no_loop number turns slots store orders = ended_well store turns orders
 
-abbrev loop_of : (List ℤ → Computing ℕ) → Parts
-loop_of block = parts_with no_loop (form_of block)
+abbrev loop_of : (List ℤ → Computing ℕ) → Loop
+loop_of block = loop_with no_loop (form_of block)
 
 -- ---- `a(i + 1) = a(i)` on line 5, with i from 0 in positions
 
@@ -130,7 +130,7 @@ abbrev shapes : List Shape
 shapes =
     record { kind = Kind.K4; logical = false; elements = 3 } ∷ record { kind = Kind.K4; logical = false; elements = 1 } ∷ []
 
-filling_matches : MatchesShapes (form_of filling).known shapes
+filling_matches : MatchesShapes (form_of filling).localities shapes
 filling_matches = record { reduces = by }
   where
     by
@@ -151,7 +151,7 @@ small_fits = refl
 abbrev by_spans : List Span → Form
 by_spans spans = record {
   line = 3;
-  known = record { locality = locality; kind = λ variable. Kind.K4; passed = λ variable. false };
+  localities = record { locality = locality; kind = λ variable. Kind.K4; passed = λ variable. false };
   copied = [];
   combines = t ∷ [];
   header = λ turns. give (spans, turns);
@@ -161,14 +161,14 @@ by_spans spans = record {
 
 -- one that leaves a step of zero is at fault, at its line
 step_zero
-    : judgement (parts_with no_loop (by_spans (record { first = pos 0; last = pos 2; step = pos 0 } ∷ []))) 7 small
+    : judgement (loop_with no_loop (by_spans (record { first = pos 0; last = pos 2; step = pos 0 } ∷ []))) 7 small
     ≡ stays small (at_header (ended (Why.Fault FaultKind.StepZero) 3 []))
 unfolding cell_of value_at put_at
 step_zero = refl
 
 -- one that leaves values gives the iterations, and the turns that it leaves
 opens
-    : judgement (parts_with no_loop (by_spans (record { first = pos 0; last = pos 1; step = pos 1 } ∷ []))) 7 small
+    : judgement (loop_with no_loop (by_spans (record { first = pos 0; last = pos 1; step = pos 1 } ∷ []))) 7 small
     ≡ record {
       verdict = go_on;
       store =
@@ -183,7 +183,7 @@ opens = refl
 abbrev pausing : Form
 pausing = record {
   line = 3;
-  known = record { locality = locality; kind = λ variable. Kind.K4; passed = λ variable. false };
+  localities = record { locality = locality; kind = λ variable. Kind.K4; passed = λ variable. false };
   copied = [];
   combines = t ∷ [];
   header = λ turns. pause stop (λ told. fail (record { why = Why.Spent; line = 3 }));
@@ -191,7 +191,7 @@ pausing = record {
   block = λ copies at. filling at;
 }
 
-pause_in_header : judgement (parts_with no_loop pausing) 7 small ≡ stays small (at_header (ended Why.Spent 3 []))
+pause_in_header : judgement (loop_with no_loop pausing) 7 small ≡ stays small (at_header (ended Why.Spent 3 []))
 pause_in_header = refl
 
 -- ---- another order
@@ -201,5 +201,5 @@ filling_ends_alike : EndsAlike (loop_of filling) small three ((pos 2 ∷ []) ∷
 filling_ends_alike =
     goes-on_alike (loop_of filling) small (plain-framed no_loop (form_of filling) filling_is_plain)
     (plain-differs no_loop (form_of filling) filling_is_plain)
-    (fits-holds (form_of filling).known shapes small filling_matches small_fits) three
+    (fits-holds (form_of filling).localities shapes small filling_matches small_fits) three
     (all-keep (KeepsLocality (loop_of filling) small) three filling_keeps) filling_goes_on ((pos 2 ∷ []) ∷ (pos 1 ∷ []) ∷ (pos 0 ∷ []) ∷ []) (IsPermutation-reverse three)

@@ -7,10 +7,10 @@ use Rattle.dc_int.specs.Entries.{Reads, Defines, Undefines, Contributes, exposes
 use Rattle.dc_int.specs.Store.{Store, value_at, put_at, bounds_of, same_element}
 use Rattle.dc_int.proofs.Stores.{same_element-itself}
 use Rattle.dc_code.specs.Computation.{give, fail, read, define, undefine, contribute, ask, pause, Reached, done, bad, paused, Run, over, SameRun, FirstDifference}
-use Rattle.dc_code.specs.Inner.{parts_with}
+use Rattle.dc_code.specs.Inner.{loop_with}
 use Rattle.dc_code.specs.Laws.{NeverPauses, HasPlainBlocks, SamePassage, SameStart, IsFramed, DiffersAtRead}
 use Rattle.dc_code.specs.Loops.{Form, Orders, Passage, alone}
-use Rattle.dc_code.specs.Passages.{Entering, behind, through}
+use Rattle.dc_code.specs.Passages.{Entering, passage_behind, through}
 use Rattle.dc_code.specs.Troubles.{Failure, Trouble, Event, Computing, in_statement}
 use Rattle.dc_code.proofs.Runs.{replayed, framed, first-difference}
 
@@ -36,13 +36,13 @@ pub through-over
 through-over enter store orders (give turns) plain = refl
 through-over enter store orders (fail failure) plain = refl
 through-over enter store orders (read x line rest) plain =
-    ap (behind (Reads x line ∷ [])) (through-over enter store orders (rest (value_at store x)) (plain (value_at store x)))
+    ap (passage_behind (Reads x line ∷ [])) (through-over enter store orders (rest (value_at store x)) (plain (value_at store x)))
 through-over enter store orders (define x value line rest) plain =
-    ap (behind (Defines x value line ∷ [])) (through-over enter (put_at store x (Some value)) orders rest plain)
+    ap (passage_behind (Defines x value line ∷ [])) (through-over enter (put_at store x (Some value)) orders rest plain)
 through-over enter store orders (undefine x line rest) plain =
-    ap (behind (Undefines x line ∷ [])) (through-over enter (put_at store x None) orders rest plain)
+    ap (passage_behind (Undefines x line ∷ [])) (through-over enter (put_at store x None) orders rest plain)
 through-over enter store orders (contribute x op value rest) plain =
-    ap (behind (Contributes x op value ∷ [])) (through-over enter store orders rest plain)
+    ap (passage_behind (Contributes x op value ∷ [])) (through-over enter store orders rest plain)
 through-over enter store orders (ask variable rest) plain =
     through-over enter store orders (rest (bounds_of store variable)) (plain (bounds_of store variable))
 through-over enter store orders (pause event rest) plain = absurd plain
@@ -71,7 +71,7 @@ module _ (enter : Entering) (form : Form) (plain : HasPlainBlocks form) where
   abbrev block_from : Store → List ℤ → Computing ℕ
   block_from store at = form.block (map (value_at store) form.copied) at
 
-  is-over : (store : Store) (at : List ℤ) → alone (parts_with enter form) store at ≡ passage_of [] (over store (block_from store at))
+  is-over : (store : Store) (at : List ℤ) → alone (loop_with enter form) store at ≡ passage_of [] (over store (block_from store at))
   is-over store at = through-over enter store [] (block_from store at) (plain (map (value_at store) form.copied) at)
 
   same-block : (first second : Store) (at : List ℤ) → SameStart form first second → block_from first at ≡ block_from second at
@@ -80,22 +80,22 @@ module _ (enter : Entering) (form : Form) (plain : HasPlainBlocks form) where
   -- the second run, by the computation of the first
   second-is
       : (first second : Store) (at : List ℤ) → SameStart form first second
-      → alone (parts_with enter form) second at ≡ passage_of [] (over second (block_from first at))
+      → alone (loop_with enter form) second at ≡ passage_of [] (over second (block_from first at))
   second-is first second at start = is-over second at ∙ ap (λ c. passage_of [] (over second c)) (sym (same-block first second at start))
 
   as-passages
       : (first second : Store) (at : List ℤ) → SameStart form first second
       → SameRun (over first (block_from first at)) (over second (block_from first at))
-      → SamePassage (alone (parts_with enter form) first at) (alone (parts_with enter form) second at)
+      → SamePassage (alone (loop_with enter form) first at) (alone (loop_with enter form) second at)
   as-passages first second at start same =
-      subst (λ one. SamePassage one (alone (parts_with enter form) second at)) (sym (is-over first at))
+      subst (λ one. SamePassage one (alone (loop_with enter form) second at)) (sym (is-over first at))
       (subst (SamePassage (passage_of [] (over first (block_from first at)))) (sym (second-is first second at start))
       (same-passage [] (over first (block_from first at)) (over second (block_from first at)) same))
 
   alike
       : (first second : Store) (at : List ℤ) → SameStart form first second
-      → ((x : ElementId) → exposes x (alone (parts_with enter form) first at).entries ≡ true → value_at first x ≡ value_at second x)
-      → SamePassage (alone (parts_with enter form) first at) (alone (parts_with enter form) second at)
+      → ((x : ElementId) → exposes x (alone (loop_with enter form) first at).entries ≡ true → value_at first x ≡ value_at second x)
+      → SamePassage (alone (loop_with enter form) first at) (alone (loop_with enter form) second at)
   alike first second at start exposed =
       let seen : (x : ElementId) → exposes x (over first (block_from first at)).entries ≡ true → value_at first x ≡ value_at second x =
       λ x read. exposed x (ap (λ passage. exposes x passage.entries) (is-over first at) ∙ read) in
@@ -103,7 +103,7 @@ module _ (enter : Entering) (form : Form) (plain : HasPlainBlocks form) where
       (framed (block_from first at) first second (record { shape = start.shape; exposed = seen }))
 
   -- A loop whose blocks don't pause is framed.
-  pub plain-framed : IsFramed (parts_with enter form)
+  pub plain-framed : IsFramed (loop_with enter form)
   plain-framed = record {
     alike = alike;
     replayed = λ store at.
@@ -116,16 +116,16 @@ module _ (enter : Entering) (form : Form) (plain : HasPlainBlocks form) where
       : (first second : Store) (at : List ℤ) → SameStart form first second
       → SameRun (over first (block_from first at)) (over second (block_from first at))
       ⊎ FirstDifference first second (over first (block_from first at)).entries (over second (block_from first at)).entries
-      → SamePassage (alone (parts_with enter form) first at) (alone (parts_with enter form) second at)
-      ⊎ FirstDifference first second (alone (parts_with enter form) first at).entries (alone (parts_with enter form) second at).entries
+      → SamePassage (alone (loop_with enter form) first at) (alone (loop_with enter form) second at)
+      ⊎ FirstDifference first second (alone (loop_with enter form) first at).entries (alone (loop_with enter form) second at).entries
   by_difference first second at start (inl same) = inl (as-passages first second at start same)
   by_difference first second at start (inr difference) =
-      inr (subst (λ one. FirstDifference first second one.entries (alone (parts_with enter form) second at).entries) (sym (is-over first at))
+      inr (subst (λ one. FirstDifference first second one.entries (alone (loop_with enter form) second at).entries) (sym (is-over first at))
       (subst (λ other. FirstDifference first second (over first (block_from first at)).entries other.entries)
       (sym (second-is first second at start)) difference))
 
   -- And two of its runs differ first at a read.
-  pub plain-differs : DiffersAtRead (parts_with enter form)
+  pub plain-differs : DiffersAtRead (loop_with enter form)
   plain-differs = record {
     differs = λ first second at start. by_difference first second at start (first-difference (block_from first at) first second start.shape);
   }

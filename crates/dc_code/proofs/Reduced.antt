@@ -17,7 +17,7 @@ use Rattle.dc_int.specs.Shapes.{store_fits}
 use Rattle.dc_int.proofs.Fits.{shape-of, fits-value, fits-combines}
 use Rattle.dc_int.proofs.Reductions.{combined-inside, combined-swap}
 use Rattle.dc_int.proofs.Stores.{same_element-is}
-use Rattle.dc_code.specs.Closing.{Localities, contributed_by, contributed, combined_with, own_operation, reduced}
+use Rattle.dc_code.specs.Closing.{Localities, contributed_by, contributed, combined_with, operation_here, reduced}
 use Rattle.dc_code.specs.Laws.{IsCombinable, MatchesShapes, may_touch}
 use Rattle.dc_code.proofs.Alone.{left_by}
 use Rattle.dc_code.proofs.Exchanges.{by_exchanges, flat_map-permutation}
@@ -27,9 +27,9 @@ use Rattle.dc_code.proofs.Permuted.{value-left}
 
 -- Each REDUCE element that has a value has one that its operation combines.
 abbrev pub HoldsCombinable : Localities → Store → Type 0
-HoldsCombinable known store =
-    (x : ElementId) (op : ReduceOp) (value : ℤ) → known.locality x.variable ≡ Locality.Reduce op → value_at store x ≡ Some value
-    → can_combine op (known.kind x.variable) value ≡ true
+HoldsCombinable localities store =
+    (x : ElementId) (op : ReduceOp) (value : ℤ) → localities.locality x.variable ≡ Locality.Reduce op → value_at store x ≡ Some value
+    → can_combine op (localities.kind x.variable) value ≡ true
 
 -- An element that has a value is one of a declared variable.
 value-declared
@@ -47,8 +47,8 @@ value-declared shapes store x value fits holds = by (slice_get store x.variable)
 
 -- So it is in a store that fits the declared variables.
 pub fits-holds
-    : (known : Localities) (shapes : List Shape) (store : Store) → MatchesShapes known shapes → store_fits shapes store ≡ true → HoldsCombinable known store
-fits-holds known shapes store matches fits x op value reduces holds =
+    : (localities : Localities) (shapes : List Shape) (store : Store) → MatchesShapes localities shapes → store_fits shapes store ≡ true → HoldsCombinable localities store
+fits-holds localities shapes store matches fits x op value reduces holds =
     let declared = value-declared shapes store x value fits holds in
     let same = matches.reduces x.variable op declared.0 reduces declared.1 in
     ap (λ kind. can_combine op kind value) same.0
@@ -90,106 +90,106 @@ combine-alike op kind = by_exchanges (λ values others. All (Can op kind) values
 
 -- Each contribution of a run to an element of a reduction is a value that its operation combines.
 can-contributed_by
-    : (known : Localities) (op : ReduceOp) (x : ElementId) → known.locality x.variable ≡ Locality.Reduce op → (run : List Entry)
-    → All (IsCombinable known) run
-    → All (Can op (known.kind x.variable)) (filter_map (contributed_by x) run)
-can-contributed_by known op x is [] own = All-nil (Can op (known.kind x.variable))
-can-contributed_by known op x is (Reads y line ∷ run) own = can-contributed_by known op x is run (All-tail (IsCombinable known) (Reads y line) run own)
-can-contributed_by known op x is (Defines y value line ∷ run) own =
-    can-contributed_by known op x is run (All-tail (IsCombinable known) (Defines y value line) run own)
-can-contributed_by known op x is (Undefines y line ∷ run) own =
-    can-contributed_by known op x is run (All-tail (IsCombinable known) (Undefines y line) run own)
-can-contributed_by known op x is (Contributes y other value ∷ run) own =
-    by (same_element x y) refl (can-contributed_by known op x is run (All-tail (IsCombinable known) (Contributes y other value) run own))
-    (All-head (IsCombinable known) (Contributes y other value) run own)
+    : (localities : Localities) (op : ReduceOp) (x : ElementId) → localities.locality x.variable ≡ Locality.Reduce op → (run : List Entry)
+    → All (IsCombinable localities) run
+    → All (Can op (localities.kind x.variable)) (filter_map (contributed_by x) run)
+can-contributed_by localities op x is [] own = All-nil (Can op (localities.kind x.variable))
+can-contributed_by localities op x is (Reads y line ∷ run) own = can-contributed_by localities op x is run (All-tail (IsCombinable localities) (Reads y line) run own)
+can-contributed_by localities op x is (Defines y value line ∷ run) own =
+    can-contributed_by localities op x is run (All-tail (IsCombinable localities) (Defines y value line) run own)
+can-contributed_by localities op x is (Undefines y line ∷ run) own =
+    can-contributed_by localities op x is run (All-tail (IsCombinable localities) (Undefines y line) run own)
+can-contributed_by localities op x is (Contributes y other value ∷ run) own =
+    by (same_element x y) refl (can-contributed_by localities op x is run (All-tail (IsCombinable localities) (Contributes y other value) run own))
+    (All-head (IsCombinable localities) (Contributes y other value) run own)
   where
     by
-        : (b : Bool) → same_element x y ≡ b → All (Can op (known.kind x.variable)) (filter_map (contributed_by x) run)
-        → IsCombinable known (Contributes y other value)
-        → All (Can op (known.kind x.variable)) (filter_map (contributed_by x) (Contributes y other value ∷ run))
+        : (b : Bool) → same_element x y ≡ b → All (Can op (localities.kind x.variable)) (filter_map (contributed_by x) run)
+        → IsCombinable localities (Contributes y other value)
+        → All (Can op (localities.kind x.variable)) (filter_map (contributed_by x) (Contributes y other value ∷ run))
     by true same rest (locality_is, suits) =
         let here : x ≡ y = same_element-is x y same in
-        let operations : Locality.Reduce other ≡ Locality.Reduce op = sym locality_is ∙ ap (λ z. known.locality z.variable) (sym here) ∙ is in
+        let operations : Locality.Reduce other ≡ Locality.Reduce op = sym locality_is ∙ ap (λ z. localities.locality z.variable) (sym here) ∙ is in
         let operation : other ≡ op = cc in
-        let fits : Can op (known.kind x.variable) value =
-        subst (λ o. Can o (known.kind x.variable) value) operation (subst (λ z. Can other (known.kind z.variable) value) (sym here) suits) in
-        rw same (All-cons (Can op (known.kind x.variable)) value (filter_map (contributed_by x) run) fits rest)
+        let fits : Can op (localities.kind x.variable) value =
+        subst (λ o. Can o (localities.kind x.variable) value) operation (subst (λ z. Can other (localities.kind z.variable) value) (sym here) suits) in
+        rw same (All-cons (Can op (localities.kind x.variable)) value (filter_map (contributed_by x) run) fits rest)
     by false same rest own = rw same rest
 
 can-contributed
-    : (known : Localities) (op : ReduceOp) (x : ElementId) → known.locality x.variable ≡ Locality.Reduce op → (runs : List (List Entry))
-    → All (All (IsCombinable known)) runs
-    → All (Can op (known.kind x.variable)) (contributed x runs)
-can-contributed known op x is [] own = All-nil (Can op (known.kind x.variable))
-can-contributed known op x is (run ∷ runs) own =
-    All-append (Can op (known.kind x.variable)) (filter_map (contributed_by x) run) (contributed x runs)
-    (can-contributed_by known op x is run (All-head (All (IsCombinable known)) run runs own))
-    (can-contributed known op x is runs (All-tail (All (IsCombinable known)) run runs own))
+    : (localities : Localities) (op : ReduceOp) (x : ElementId) → localities.locality x.variable ≡ Locality.Reduce op → (runs : List (List Entry))
+    → All (All (IsCombinable localities)) runs
+    → All (Can op (localities.kind x.variable)) (contributed x runs)
+can-contributed localities op x is [] own = All-nil (Can op (localities.kind x.variable))
+can-contributed localities op x is (run ∷ runs) own =
+    All-append (Can op (localities.kind x.variable)) (filter_map (contributed_by x) run) (contributed x runs)
+    (can-contributed_by localities op x is run (All-head (All (IsCombinable localities)) run runs own))
+    (can-contributed localities op x is runs (All-tail (All (IsCombinable localities)) run runs own))
 
 -- ---- the definition of an element
 
-pub own-is : (known : Localities) (variable : ℕ) (op : ReduceOp) → own_operation known variable ≡ Some op → known.locality variable ≡ Locality.Reduce op
-own-is known variable op e = by_passed (known.passed variable) refl
+pub here-is : (localities : Localities) (variable : ℕ) (op : ReduceOp) → operation_here localities variable ≡ Some op → localities.locality variable ≡ Locality.Reduce op
+here-is localities variable op e = by_passed (localities.passed variable) refl
   where
     by_locality
-        : known.passed variable ≡ false → (locality : Locality) → known.locality variable ≡ locality → known.locality variable ≡ Locality.Reduce op
+        : localities.passed variable ≡ false → (locality : Locality) → localities.locality variable ≡ locality → localities.locality variable ≡ Locality.Reduce op
     by_locality kept (Locality.Reduce other) is =
-        let told : own_operation known variable ≡ Some other = rw (kept, is) refl in
+        let told : operation_here localities variable ≡ Some other = rw (kept, is) refl in
         is ∙ ap Locality.Reduce (same_Some other op (sym told ∙ e))
-    by_locality kept Locality.Plain is = let told : own_operation known variable ≡ None = rw (kept, is) refl in absurd (none-some op (sym told ∙ e))
-    by_locality kept Locality.Shared is = let told : own_operation known variable ≡ None = rw (kept, is) refl in absurd (none-some op (sym told ∙ e))
-    by_locality kept Locality.Local is = let told : own_operation known variable ≡ None = rw (kept, is) refl in absurd (none-some op (sym told ∙ e))
+    by_locality kept Locality.Plain is = let told : operation_here localities variable ≡ None = rw (kept, is) refl in absurd (none-some op (sym told ∙ e))
+    by_locality kept Locality.Shared is = let told : operation_here localities variable ≡ None = rw (kept, is) refl in absurd (none-some op (sym told ∙ e))
+    by_locality kept Locality.Local is = let told : operation_here localities variable ≡ None = rw (kept, is) refl in absurd (none-some op (sym told ∙ e))
     by_locality kept Locality.LocalInit is =
-        let told : own_operation known variable ≡ None = rw (kept, is) refl in absurd (none-some op (sym told ∙ e))
+        let told : operation_here localities variable ≡ None = rw (kept, is) refl in absurd (none-some op (sym told ∙ e))
 
-    by_passed : (passed : Bool) → known.passed variable ≡ passed → known.locality variable ≡ Locality.Reduce op
-    by_passed true passed = let told : own_operation known variable ≡ None = rw passed refl in absurd (none-some op (sym told ∙ e))
-    by_passed false kept = by_locality kept (known.locality variable) refl
+    by_passed : (passed : Bool) → localities.passed variable ≡ passed → localities.locality variable ≡ Locality.Reduce op
+    by_passed true passed = let told : operation_here localities variable ≡ None = rw passed refl in absurd (none-some op (sym told ∙ e))
+    by_passed false kept = by_locality kept (localities.locality variable) refl
 
 -- the definition of an element by its operation and its value
 abbrev pub defined_by : Localities → ℕ → List (List Entry) → ElementId → Option ReduceOp → Option ℤ → Option Entry
-defined_by known line runs x (Some op) (Some value) = Some (Defines x (combined_with op (known.kind x.variable) value (contributed x runs)) line)
-defined_by known line runs x op value = None
+defined_by localities line runs x (Some op) (Some value) = Some (Defines x (combined_with op (localities.kind x.variable) value (contributed x runs)) line)
+defined_by localities line runs x op value = None
 
 pub reduced-is
-    : (known : Localities) (line : ℕ) (runs : List (List Entry)) (store : Store) (x : ElementId)
-    → reduced known line runs store x ≡ defined_by known line runs x (own_operation known x.variable) (value_at store x)
-reduced-is known line runs store x = by (own_operation known x.variable) (value_at store x) refl refl
+    : (localities : Localities) (line : ℕ) (runs : List (List Entry)) (store : Store) (x : ElementId)
+    → reduced localities line runs store x ≡ defined_by localities line runs x (operation_here localities x.variable) (value_at store x)
+reduced-is localities line runs store x = by (operation_here localities x.variable) (value_at store x) refl refl
   where
     by
-        : (op : Option ReduceOp) (value : Option ℤ) → own_operation known x.variable ≡ op → value_at store x ≡ value
-        → reduced known line runs store x ≡ defined_by known line runs x op value
+        : (op : Option ReduceOp) (value : Option ℤ) → operation_here localities x.variable ≡ op → value_at store x ≡ value
+        → reduced localities line runs store x ≡ defined_by localities line runs x op value
     by (Some op) (Some value) op_is value_is = rw (op_is, value_is) refl
     by (Some op) None op_is value_is = rw (op_is, value_is) refl
     by None value op_is value_is = rw op_is refl
 
 -- An element of a reduction is defined alike by runs and by a permutation of them.
 pub reduced-permuted
-    : (known : Localities) (line : ℕ) (runs others : List (List Entry)) (store : Store) → IsPermutation runs others
-    → All (All (IsCombinable known)) runs → HoldsCombinable known store
-    → ((x : ElementId) → may_touch (known.locality x.variable) ≡ false → list_any (touches x) runs ≡ false)
-    → ((x : ElementId) → may_touch (known.locality x.variable) ≡ false → list_any (touches x) others ≡ false)
-    → (x : ElementId) → reduced known line runs (left_by runs store) x ≡ reduced known line others (left_by others store) x
-reduced-permuted known line runs others store permuted own holds apart apart_too x =
-    reduced-is known line runs (left_by runs store) x ∙ by (own_operation known x.variable) refl
-    ∙ sym (reduced-is known line others (left_by others store) x)
+    : (localities : Localities) (line : ℕ) (runs others : List (List Entry)) (store : Store) → IsPermutation runs others
+    → All (All (IsCombinable localities)) runs → HoldsCombinable localities store
+    → ((x : ElementId) → may_touch (localities.locality x.variable) ≡ false → list_any (touches x) runs ≡ false)
+    → ((x : ElementId) → may_touch (localities.locality x.variable) ≡ false → list_any (touches x) others ≡ false)
+    → (x : ElementId) → reduced localities line runs (left_by runs store) x ≡ reduced localities line others (left_by others store) x
+reduced-permuted localities line runs others store permuted own holds apart apart_too x =
+    reduced-is localities line runs (left_by runs store) x ∙ by (operation_here localities x.variable) refl
+    ∙ sym (reduced-is localities line others (left_by others store) x)
   where
     by_value
-        : (op : ReduceOp) → known.locality x.variable ≡ Locality.Reduce op → (value : Option ℤ) → value_at store x ≡ value
-        → defined_by known line runs x (Some op) value ≡ defined_by known line others x (Some op) value
+        : (op : ReduceOp) → localities.locality x.variable ≡ Locality.Reduce op → (value : Option ℤ) → value_at store x ≡ value
+        → defined_by localities line runs x (Some op) value ≡ defined_by localities line others x (Some op) value
     by_value op is None value_is = refl
     by_value op is (Some value) value_is =
         let alike =
-        combine-alike op (known.kind x.variable) (contributed x runs) (contributed x others)
-        (flat_map-permutation (filter_map (contributed_by x)) runs others permuted) (can-contributed known op x is runs own) in
+        combine-alike op (localities.kind x.variable) (contributed x runs) (contributed x others)
+        (flat_map-permutation (filter_map (contributed_by x)) runs others permuted) (can-contributed localities op x is runs own) in
         ap (λ v. Some (Defines x v line)) (alike.same value (holds x op value is value_is))
 
     by
-        : (op : Option ReduceOp) → own_operation known x.variable ≡ op
-        → defined_by known line runs x op (value_at (left_by runs store) x) ≡ defined_by known line others x op (value_at (left_by others store) x)
+        : (op : Option ReduceOp) → operation_here localities x.variable ≡ op
+        → defined_by localities line runs x op (value_at (left_by runs store) x) ≡ defined_by localities line others x op (value_at (left_by others store) x)
     by None op_is = refl
     by (Some op) op_is =
-        let is = own-is known x.variable op op_is in
-        let never : may_touch (known.locality x.variable) ≡ false = ap may_touch is in
-        ap (defined_by known line runs x (Some op)) (value-left runs store x (apart x never)) ∙ by_value op is (value_at store x) refl
-        ∙ ap (defined_by known line others x (Some op)) (sym (value-left others store x (apart_too x never)))
+        let is = here-is localities x.variable op op_is in
+        let never : may_touch (localities.locality x.variable) ≡ false = ap may_touch is in
+        ap (defined_by localities line runs x (Some op)) (value-left runs store x (apart x never)) ∙ by_value op is (value_at store x) refl
+        ∙ ap (defined_by localities line others x (Some op)) (sym (value-left others store x (apart_too x never)))

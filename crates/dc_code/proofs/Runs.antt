@@ -10,7 +10,7 @@ use Rattle.dc_int.specs.Store.{Store, cell_of, value_at, put_at, bounds_of, same
 use Rattle.dc_int.specs.Entries.{Entry, Reads, Defines, Undefines, Contributes, store_after, touches, exposes, is_touch_of, state_after}
 use Rattle.dc_int.proofs.Fits.{bounds-put}
 use Rattle.dc_int.proofs.Stores.{replaced, cell-put, cell-after, state-after, same_element-itself}
-use Rattle.dc_code.specs.Computation.{Computation, give, fail, read, define, undefine, contribute, ask, pause, sequence, Run, over, behind, followed, Agree, SameRun, SameShape, FirstDifference}
+use Rattle.dc_code.specs.Computation.{Computation, give, fail, read, define, undefine, contribute, ask, pause, sequence, Run, over, behind_entries, followed, Agree, SameRun, SameShape, FirstDifference}
 
 -- The store after a run is what its entries make of the store before it.
 pub replayed : {E T A : Type 0} (store : Store) (c : Computation E T A) → (over store c).store ≡ store_after (over store c).entries store
@@ -27,10 +27,10 @@ replayed store (pause event rest) = refl
 pub over-then : {E T A B : Type 0} (store : Store) (c : Computation E T A) (next : A → Computation E T B) → over store (sequence c next) ≡ followed (over store c) next
 over-then store (give a) next = refl
 over-then store (fail trouble) next = refl
-over-then store (read x line rest) next = ap (behind (Reads x line ∷ [])) (over-then store (rest (value_at store x)) next)
-over-then store (define x value line rest) next = ap (behind (Defines x value line ∷ [])) (over-then (put_at store x (Some value)) rest next)
-over-then store (undefine x line rest) next = ap (behind (Undefines x line ∷ [])) (over-then (put_at store x None) rest next)
-over-then store (contribute x op value rest) next = ap (behind (Contributes x op value ∷ [])) (over-then store rest next)
+over-then store (read x line rest) next = ap (behind_entries (Reads x line ∷ [])) (over-then store (rest (value_at store x)) next)
+over-then store (define x value line rest) next = ap (behind_entries (Defines x value line ∷ [])) (over-then (put_at store x (Some value)) rest next)
+over-then store (undefine x line rest) next = ap (behind_entries (Undefines x line ∷ [])) (over-then (put_at store x None) rest next)
+over-then store (contribute x op value rest) next = ap (behind_entries (Contributes x op value ∷ [])) (over-then store rest next)
 over-then store (ask variable rest) next = over-then store (rest (bounds_of store variable)) next
 over-then store (pause event rest) next = refl
 
@@ -88,7 +88,7 @@ or-true : (a b : Bool) → b ≡ true → (a || b) ≡ true
 or-true true b e = refl
 or-true false b e = e
 
-same-behind : {E T A : Type 0} (entry : Entry) (first second : Run E T A) → SameRun first second → SameRun (behind (entry ∷ []) first) (behind (entry ∷ []) second)
+same-behind : {E T A : Type 0} (entry : Entry) (first second : Run E T A) → SameRun first second → SameRun (behind_entries (entry ∷ []) first) (behind_entries (entry ∷ []) second)
 same-behind entry first second same = record { entries = ap (λ es. entry ∷ es) same.entries; reached = same.reached }
 
 -- The frame law.

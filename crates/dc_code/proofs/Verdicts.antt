@@ -9,7 +9,7 @@ use Rattle.dc_int.specs.Entries.{Entry}
 use Rattle.dc_int.specs.Store.{Store}
 use Rattle.dc_code.specs.declared.verdict.Race.{Race}
 use Rattle.dc_code.specs.Laws.{alone_runs, EndWell}
-use Rattle.dc_code.specs.Loops.{Parts, Passage, alone, order}
+use Rattle.dc_code.specs.Loops.{Loop, Passage, alone, order}
 use Rattle.dc_code.specs.Pairs.{first_clash, pair}
 use Rattle.dc_code.specs.Troubles.{Trouble}
 use Rattle.dc_code.specs.Verdicts.{Verdict, go_on, at_header, in_iteration, race, first_of, or_later, bad_iteration, race_in, race_between, race_among, verdict}
@@ -27,33 +27,33 @@ handed_on (Some a) next b e = record { item = a; is = refl; next_is = e }
 -- ---- a race
 
 -- The verdict is the race of the iterations i and j.
-pub record RaceBetween (parts : Parts) (store : Store) (iterations : List (List ℤ)) (i j : ℕ) (said : Verdict) : Type 0 where
+pub record RaceBetween (loop : Loop) (store : Store) (iterations : List (List ℤ)) (i j : ℕ) (said : Verdict) : Type 0 where
   pub first : List ℤ
   pub second : List ℤ
   pub found : Race
   pub first_is : slice_get iterations i ≡ Some first
   pub second_is : slice_get iterations j ≡ Some second
-  pub found_is : race_in parts.form.known.locality i j (order parts [] store (first ∷ second ∷ [])).runs ≡ Some found
+  pub found_is : race_in loop.form.localities.locality i j (order loop [] store (first ∷ second ∷ [])).runs ≡ Some found
   pub said_is : said ≡ race found first second
 
 -- the steps of `race_between`, each behind what the one before it found
-abbrev pub told_of : Parts → Store → ℕ → ℕ → List ℤ → List ℤ → Option Race
-told_of parts store i j first second = race_in parts.form.known.locality i j (order parts [] store (first ∷ second ∷ [])).runs
+abbrev pub told_of : Loop → Store → ℕ → ℕ → List ℤ → List ℤ → Option Race
+told_of loop store i j first second = race_in loop.form.localities.locality i j (order loop [] store (first ∷ second ∷ [])).runs
 
-abbrev pub behind_second : Parts → Store → ℕ → ℕ → List ℤ → List ℤ → Option Verdict
-behind_second parts store i j first second = option_and_then (λ found. Some (race found first second)) (told_of parts store i j first second)
+abbrev pub behind_second : Loop → Store → ℕ → ℕ → List ℤ → List ℤ → Option Verdict
+behind_second loop store i j first second = option_and_then (λ found. Some (race found first second)) (told_of loop store i j first second)
 
-abbrev pub behind_first : Parts → Store → List (List ℤ) → ℕ → ℕ → List ℤ → Option Verdict
-behind_first parts store iterations i j first = option_and_then (behind_second parts store i j first) (slice_get iterations j)
+abbrev pub behind_first : Loop → Store → List (List ℤ) → ℕ → ℕ → List ℤ → Option Verdict
+behind_first loop store iterations i j first = option_and_then (behind_second loop store i j first) (slice_get iterations j)
 
 pub race-between
-    : (parts : Parts) (store : Store) (iterations : List (List ℤ)) (i j : ℕ) (said : Verdict)
-    → race_between parts store iterations (i, j) ≡ Some said → RaceBetween parts store iterations i j said
-race-between parts store iterations i j said e =
-    let one : HandedOn (slice_get iterations i) (behind_first parts store iterations i j) said =
-    handed_on (slice_get iterations i) (behind_first parts store iterations i j) said e in
-    let two = handed_on (slice_get iterations j) (behind_second parts store i j one.item) said one.next_is in
-    let three = handed_on (told_of parts store i j one.item two.item) (λ found. Some (race found one.item two.item)) said two.next_is in
+    : (loop : Loop) (store : Store) (iterations : List (List ℤ)) (i j : ℕ) (said : Verdict)
+    → race_between loop store iterations (i, j) ≡ Some said → RaceBetween loop store iterations i j said
+race-between loop store iterations i j said e =
+    let one : HandedOn (slice_get iterations i) (behind_first loop store iterations i j) said =
+    handed_on (slice_get iterations i) (behind_first loop store iterations i j) said e in
+    let two = handed_on (slice_get iterations j) (behind_second loop store i j one.item) said one.next_is in
+    let three = handed_on (told_of loop store i j one.item two.item) (λ found. Some (race found one.item two.item)) said two.next_is in
     record {
       first = one.item;
       second = two.item;
@@ -65,25 +65,25 @@ race-between parts store iterations i j said e =
     }
 
 -- what `race_among` goes on with behind a clash
-abbrev pub behind_clash : Parts → Store → List (List ℤ) → List (List Entry) → ElementId → Option Verdict
-behind_clash parts store iterations runs x =
-    option_and_then (race_between parts store iterations) (pair (parts.form.known.locality x.variable) x runs)
+abbrev pub behind_clash : Loop → Store → List (List ℤ) → List (List Entry) → ElementId → Option Verdict
+behind_clash loop store iterations runs x =
+    option_and_then (race_between loop store iterations) (pair (loop.form.localities.locality x.variable) x runs)
 
 -- The verdict is the race that the least clashing element names.
-pub record RaceAmong (parts : Parts) (store : Store) (iterations : List (List ℤ)) (runs : List (List Entry)) (said : Verdict) : Type 0 where
+pub record RaceAmong (loop : Loop) (store : Store) (iterations : List (List ℤ)) (runs : List (List Entry)) (said : Verdict) : Type 0 where
   pub x : ElementId
   pub i : ℕ
   pub j : ℕ
-  pub clash : first_clash parts.form.known.locality store runs ≡ Some x
-  pub named : pair (parts.form.known.locality x.variable) x runs ≡ Some (i, j)
-  pub between : RaceBetween parts store iterations i j said
+  pub clash : first_clash loop.form.localities.locality store runs ≡ Some x
+  pub named : pair (loop.form.localities.locality x.variable) x runs ≡ Some (i, j)
+  pub between : RaceBetween loop store iterations i j said
 
 pub race-among
-    : (parts : Parts) (store : Store) (iterations : List (List ℤ)) (runs : List (List Entry)) (said : Verdict)
-    → race_among parts store iterations runs ≡ Some said → RaceAmong parts store iterations runs said
-race-among parts store iterations runs said e =
-    let one = handed_on (first_clash parts.form.known.locality store runs) (behind_clash parts store iterations runs) said e in
-    let two = handed_on (pair (parts.form.known.locality one.item.variable) one.item runs) (race_between parts store iterations) said one.next_is in
+    : (loop : Loop) (store : Store) (iterations : List (List ℤ)) (runs : List (List Entry)) (said : Verdict)
+    → race_among loop store iterations runs ≡ Some said → RaceAmong loop store iterations runs said
+race-among loop store iterations runs said e =
+    let one = handed_on (first_clash loop.form.localities.locality store runs) (behind_clash loop store iterations runs) said e in
+    let two = handed_on (pair (loop.form.localities.locality one.item.variable) one.item runs) (race_between loop store iterations) said one.next_is in
     record {
       x = one.item;
       i = two.item.0;
@@ -91,7 +91,7 @@ race-among parts store iterations runs said e =
       clash = one.is;
       named = two.is;
       between =
-          race-between parts store iterations two.item.0 two.item.1 said two.next_is;
+          race-between loop store iterations two.item.0 two.item.1 said two.next_is;
     }
 
 -- ---- the parts of a verdict
@@ -102,54 +102,54 @@ is_race (race found first second) = true
 is_race said = false
 
 among-is_race
-    : (parts : Parts) (store : Store) (iterations : List (List ℤ)) (runs : List (List Entry)) (said : Verdict)
-    → race_among parts store iterations runs ≡ Some said → is_race said ≡ true
-among-is_race parts store iterations runs said e = ap is_race (race-among parts store iterations runs said e).between.said_is
+    : (loop : Loop) (store : Store) (iterations : List (List ℤ)) (runs : List (List Entry)) (said : Verdict)
+    → race_among loop store iterations runs ≡ Some said → is_race said ≡ true
+among-is_race loop store iterations runs said e = ap is_race (race-among loop store iterations runs said e).between.said_is
 
 -- A verdict that tells of an iteration has the trouble that this one meets alone.
 bad-alone
-    : (parts : Parts) (store : Store) (iterations : List (List ℤ)) (met : Trouble) (at : List ℤ)
-    → bad_iteration iterations (map (alone parts store) iterations) ≡ Some (in_iteration met at) → (alone parts store at).trouble ≡ Some met
-bad-alone parts store [] met at e = absurd (none-some (in_iteration met at) e)
-bad-alone parts store (other ∷ rest) met at e = by (alone parts store other).trouble refl e (bad-alone parts store rest met at)
+    : (loop : Loop) (store : Store) (iterations : List (List ℤ)) (met : Trouble) (at : List ℤ)
+    → bad_iteration iterations (map (alone loop store) iterations) ≡ Some (in_iteration met at) → (alone loop store at).trouble ≡ Some met
+bad-alone loop store [] met at e = absurd (none-some (in_iteration met at) e)
+bad-alone loop store (other ∷ rest) met at e = by (alone loop store other).trouble refl e (bad-alone loop store rest met at)
   where
     by
-        : (trouble : Option Trouble) → (alone parts store other).trouble ≡ trouble
-        → or_later other trouble (bad_iteration rest (map (alone parts store) rest)) ≡ Some (in_iteration met at)
-        → (bad_iteration rest (map (alone parts store) rest) ≡ Some (in_iteration met at) → (alone parts store at).trouble ≡ Some met)
-        → (alone parts store at).trouble ≡ Some met
+        : (trouble : Option Trouble) → (alone loop store other).trouble ≡ trouble
+        → or_later other trouble (bad_iteration rest (map (alone loop store) rest)) ≡ Some (in_iteration met at)
+        → (bad_iteration rest (map (alone loop store) rest) ≡ Some (in_iteration met at) → (alone loop store at).trouble ≡ Some met)
+        → (alone loop store at).trouble ≡ Some met
     by (Some trouble) is e later =
         let same : in_iteration trouble other ≡ in_iteration met at = same_Some (in_iteration trouble other) (in_iteration met at) e in
         let same_trouble : trouble ≡ met = cc in
         let same_values : other ≡ at = cc in
-        subst (λ values. (alone parts store values).trouble ≡ Some met) same_values (is ∙ ap (λ (t : Trouble). Some t) same_trouble)
+        subst (λ values. (alone loop store values).trouble ≡ Some met) same_values (is ∙ ap (λ (t : Trouble). Some t) same_trouble)
     by None is e later = later e
 
 -- A verdict that tells of an iteration is that of the first one that doesn't end well.
 told-bad
-    : (parts : Parts) (store : Store) (iterations : List (List ℤ)) (met : Trouble) (at : List ℤ)
-    → verdict parts store iterations ≡ in_iteration met at
-    → bad_iteration iterations (map (alone parts store) iterations) ≡ Some (in_iteration met at)
-told-bad parts store iterations met at told =
-    by (bad_iteration iterations (map (alone parts store) iterations)) refl
-    (race_among parts store iterations (alone_runs parts store iterations)) refl told
+    : (loop : Loop) (store : Store) (iterations : List (List ℤ)) (met : Trouble) (at : List ℤ)
+    → verdict loop store iterations ≡ in_iteration met at
+    → bad_iteration iterations (map (alone loop store) iterations) ≡ Some (in_iteration met at)
+told-bad loop store iterations met at told =
+    by (bad_iteration iterations (map (alone loop store) iterations)) refl
+    (race_among loop store iterations (alone_runs loop store iterations)) refl told
   where
     by
-        : (bad : Option Verdict) → bad_iteration iterations (map (alone parts store) iterations) ≡ bad
-        → (raced : Option Verdict) → race_among parts store iterations (alone_runs parts store iterations) ≡ raced
+        : (bad : Option Verdict) → bad_iteration iterations (map (alone loop store) iterations) ≡ bad
+        → (raced : Option Verdict) → race_among loop store iterations (alone_runs loop store iterations) ≡ raced
         → first_of bad raced ≡ in_iteration met at
-        → bad_iteration iterations (map (alone parts store) iterations) ≡ Some (in_iteration met at)
+        → bad_iteration iterations (map (alone loop store) iterations) ≡ Some (in_iteration met at)
     by (Some said) bad_is raced raced_is e = bad_is ∙ ap (λ (v : Verdict). Some v) e
     by None bad_is (Some said) raced_is e =
-        let shown : is_race said ≡ true = among-is_race parts store iterations (alone_runs parts store iterations) said raced_is in
+        let shown : is_race said ≡ true = among-is_race loop store iterations (alone_runs loop store iterations) said raced_is in
         let told : is_race said ≡ false = ap is_race e in
         cc
     by None bad_is None raced_is e = cc
 
 pub told-alone
-    : (parts : Parts) (store : Store) (iterations : List (List ℤ)) (met : Trouble) (at : List ℤ)
-    → verdict parts store iterations ≡ in_iteration met at → (alone parts store at).trouble ≡ Some met
-told-alone parts store iterations met at told = bad-alone parts store iterations met at (told-bad parts store iterations met at told)
+    : (loop : Loop) (store : Store) (iterations : List (List ℤ)) (met : Trouble) (at : List ℤ)
+    → verdict loop store iterations ≡ in_iteration met at → (alone loop store at).trouble ≡ Some met
+told-alone loop store iterations met at told = bad-alone loop store iterations met at (told-bad loop store iterations met at told)
 
 -- It is one of the iterations.
 bad-place
@@ -170,10 +170,10 @@ bad-place (other ∷ rest) (passage ∷ passages) met at e = by passage.trouble 
     by None e later = let found = later e in (suc found.0, found.1)
 
 pub told-place
-    : (parts : Parts) (store : Store) (iterations : List (List ℤ)) (met : Trouble) (at : List ℤ)
-    → verdict parts store iterations ≡ in_iteration met at → (place : ℕ) × (slice_get iterations place ≡ Some at)
-told-place parts store iterations met at told =
-    bad-place iterations (map (alone parts store) iterations) met at (told-bad parts store iterations met at told)
+    : (loop : Loop) (store : Store) (iterations : List (List ℤ)) (met : Trouble) (at : List ℤ)
+    → verdict loop store iterations ≡ in_iteration met at → (place : ℕ) × (slice_get iterations place ≡ Some at)
+told-place loop store iterations met at told =
+    bad-place iterations (map (alone loop store) iterations) met at (told-bad loop store iterations met at told)
 
 bad-is_race
     : (iterations : List (List ℤ)) (passages : List Passage) (said : Verdict) → bad_iteration iterations passages ≡ Some said → is_race said ≡ false
@@ -189,24 +189,24 @@ bad-is_race (at ∷ rest) (passage ∷ passages) said e = by passage.trouble e (
 
 -- A verdict of a race is that of the least clashing element.
 pub told-race
-    : (parts : Parts) (store : Store) (iterations : List (List ℤ)) (found : Race) (first second : List ℤ)
-    → verdict parts store iterations ≡ race found first second
-    → RaceAmong parts store iterations (alone_runs parts store iterations) (race found first second)
-told-race parts store iterations found first second told =
-    by (bad_iteration iterations (map (alone parts store) iterations)) refl
-    (race_among parts store iterations (alone_runs parts store iterations)) refl told
+    : (loop : Loop) (store : Store) (iterations : List (List ℤ)) (found : Race) (first second : List ℤ)
+    → verdict loop store iterations ≡ race found first second
+    → RaceAmong loop store iterations (alone_runs loop store iterations) (race found first second)
+told-race loop store iterations found first second told =
+    by (bad_iteration iterations (map (alone loop store) iterations)) refl
+    (race_among loop store iterations (alone_runs loop store iterations)) refl told
   where
     by
-        : (bad : Option Verdict) → bad_iteration iterations (map (alone parts store) iterations) ≡ bad
-        → (raced : Option Verdict) → race_among parts store iterations (alone_runs parts store iterations) ≡ raced
+        : (bad : Option Verdict) → bad_iteration iterations (map (alone loop store) iterations) ≡ bad
+        → (raced : Option Verdict) → race_among loop store iterations (alone_runs loop store iterations) ≡ raced
         → first_of bad raced ≡ race found first second
-        → RaceAmong parts store iterations (alone_runs parts store iterations) (race found first second)
+        → RaceAmong loop store iterations (alone_runs loop store iterations) (race found first second)
     by (Some said) bad_is raced raced_is e =
-        let shown : is_race said ≡ false = bad-is_race iterations (map (alone parts store) iterations) said bad_is in
+        let shown : is_race said ≡ false = bad-is_race iterations (map (alone loop store) iterations) said bad_is in
         let told : is_race said ≡ true = ap is_race e in
         absurd (false≢true (sym shown ∙ told))
     by None bad_is (Some said) raced_is e =
-        race-among parts store iterations (alone_runs parts store iterations) (race found first second) (raced_is ∙ ap (λ (v : Verdict). Some v) e)
+        race-among loop store iterations (alone_runs loop store iterations) (race found first second) (raced_is ∙ ap (λ (v : Verdict). Some v) e)
     by None bad_is None raced_is e = cc
 
 -- ---- iterations have no header
@@ -230,19 +230,19 @@ bad-no_header (at ∷ rest) (passage ∷ passages) said e = by passage.trouble e
 
 -- A verdict on iterations is no header's trouble.
 pub told-no_header
-    : (parts : Parts) (store : Store) (iterations : List (List ℤ)) (trouble : Trouble) → verdict parts store iterations ≡ at_header trouble → ⊥
-told-no_header parts store iterations trouble told =
-    by (bad_iteration iterations (map (alone parts store) iterations)) refl
-    (race_among parts store iterations (alone_runs parts store iterations)) refl told
+    : (loop : Loop) (store : Store) (iterations : List (List ℤ)) (trouble : Trouble) → verdict loop store iterations ≡ at_header trouble → ⊥
+told-no_header loop store iterations trouble told =
+    by (bad_iteration iterations (map (alone loop store) iterations)) refl
+    (race_among loop store iterations (alone_runs loop store iterations)) refl told
   where
     by
-        : (bad : Option Verdict) → bad_iteration iterations (map (alone parts store) iterations) ≡ bad
-        → (raced : Option Verdict) → race_among parts store iterations (alone_runs parts store iterations) ≡ raced
+        : (bad : Option Verdict) → bad_iteration iterations (map (alone loop store) iterations) ≡ bad
+        → (raced : Option Verdict) → race_among loop store iterations (alone_runs loop store iterations) ≡ raced
         → first_of bad raced ≡ at_header trouble → ⊥
     by (Some said) bad_is raced raced_is e =
-        false≢true (sym (bad-no_header iterations (map (alone parts store) iterations) said bad_is) ∙ ap is_at_header e)
+        false≢true (sym (bad-no_header iterations (map (alone loop store) iterations) said bad_is) ∙ ap is_at_header e)
     by None bad_is (Some said) raced_is e =
-        let among = race-among parts store iterations (alone_runs parts store iterations) said raced_is in
+        let among = race-among loop store iterations (alone_runs loop store iterations) said raced_is in
         false≢true (sym (ap is_at_header among.between.said_is) ∙ ap is_at_header e)
     by None bad_is None raced_is e = false≢true (ap is_at_header e)
 
@@ -265,37 +265,37 @@ bad-goes_on (at ∷ rest) (passage ∷ passages) said e = by passage.trouble e (
     by None e later = later e
 
 -- No iteration is told as one that doesn't end well, and no race.
-pub record TellsNothing (parts : Parts) (store : Store) (iterations : List (List ℤ)) : Type 0 where
-  pub bad : bad_iteration iterations (map (alone parts store) iterations) ≡ None
-  pub raced : race_among parts store iterations (alone_runs parts store iterations) ≡ None
+pub record TellsNothing (loop : Loop) (store : Store) (iterations : List (List ℤ)) : Type 0 where
+  pub bad : bad_iteration iterations (map (alone loop store) iterations) ≡ None
+  pub raced : race_among loop store iterations (alone_runs loop store iterations) ≡ None
 
 pub told-nothing
-    : (parts : Parts) (store : Store) (iterations : List (List ℤ)) → verdict parts store iterations ≡ go_on → TellsNothing parts store iterations
-told-nothing parts store iterations told =
-    by (bad_iteration iterations (map (alone parts store) iterations)) refl
-    (race_among parts store iterations (alone_runs parts store iterations)) refl told
+    : (loop : Loop) (store : Store) (iterations : List (List ℤ)) → verdict loop store iterations ≡ go_on → TellsNothing loop store iterations
+told-nothing loop store iterations told =
+    by (bad_iteration iterations (map (alone loop store) iterations)) refl
+    (race_among loop store iterations (alone_runs loop store iterations)) refl told
   where
     by
-        : (bad : Option Verdict) → bad_iteration iterations (map (alone parts store) iterations) ≡ bad
-        → (raced : Option Verdict) → race_among parts store iterations (alone_runs parts store iterations) ≡ raced
-        → first_of bad raced ≡ go_on → TellsNothing parts store iterations
+        : (bad : Option Verdict) → bad_iteration iterations (map (alone loop store) iterations) ≡ bad
+        → (raced : Option Verdict) → race_among loop store iterations (alone_runs loop store iterations) ≡ raced
+        → first_of bad raced ≡ go_on → TellsNothing loop store iterations
     by (Some said) bad_is raced raced_is e =
-        absurd (false≢true (sym (bad-goes_on iterations (map (alone parts store) iterations) said bad_is) ∙ ap goes_on e))
+        absurd (false≢true (sym (bad-goes_on iterations (map (alone loop store) iterations) said bad_is) ∙ ap goes_on e))
     by None bad_is (Some said) raced_is e =
-        let among = race-among parts store iterations (alone_runs parts store iterations) said raced_is in
+        let among = race-among loop store iterations (alone_runs loop store iterations) said raced_is in
         absurd (false≢true (sym (ap goes_on among.between.said_is) ∙ ap goes_on e))
     by None bad_is None raced_is e = record { bad = bad_is; raced = raced_is }
 
 -- So each iteration ends well.
 pub none-bad-end_well
-    : (parts : Parts) (store : Store) (iterations : List (List ℤ)) → bad_iteration iterations (map (alone parts store) iterations) ≡ None
-    → EndWell parts store iterations
-none-bad-end_well parts store [] none = All-nil (λ at. (alone parts store at).trouble ≡ None)
-none-bad-end_well parts store (at ∷ rest) none = by (alone parts store at).trouble refl none (none-bad-end_well parts store rest)
+    : (loop : Loop) (store : Store) (iterations : List (List ℤ)) → bad_iteration iterations (map (alone loop store) iterations) ≡ None
+    → EndWell loop store iterations
+none-bad-end_well loop store [] none = All-nil (λ at. (alone loop store at).trouble ≡ None)
+none-bad-end_well loop store (at ∷ rest) none = by (alone loop store at).trouble refl none (none-bad-end_well loop store rest)
   where
     by
-        : (trouble : Option Trouble) → (alone parts store at).trouble ≡ trouble
-        → or_later at trouble (bad_iteration rest (map (alone parts store) rest)) ≡ None
-        → (bad_iteration rest (map (alone parts store) rest) ≡ None → EndWell parts store rest) → EndWell parts store (at ∷ rest)
+        : (trouble : Option Trouble) → (alone loop store at).trouble ≡ trouble
+        → or_later at trouble (bad_iteration rest (map (alone loop store) rest)) ≡ None
+        → (bad_iteration rest (map (alone loop store) rest) ≡ None → EndWell loop store rest) → EndWell loop store (at ∷ rest)
     by (Some met) is e later = absurd (none-some (in_iteration met at) (sym e))
-    by None is e later = All-cons (λ a. (alone parts store a).trouble ≡ None) at rest is (later e)
+    by None is e later = All-cons (λ a. (alone loop store a).trouble ≡ None) at rest is (later e)

@@ -30,7 +30,7 @@ is_unspecified locality = false
 
 -- The elements of unspecified locality that two or more iterations touched, in store order.
 abbrev pub forgotten : Localities → List (List Entry) → Store → List ElementId
-forgotten known runs store = filter (λ x. is_unspecified (known.locality x.variable) && is_touched_twice x runs) (elements_of store)
+forgotten localities runs store = filter (λ x. is_unspecified (localities.locality x.variable) && is_touched_twice x runs) (elements_of store)
 
 -- ---- elements of reductions
 
@@ -48,8 +48,8 @@ combined_with op kind value [] = value
 combined_with op kind value (other ∷ others) = combined_with op kind (combined op kind value other) others
 
 -- The operation of a REDUCE variable whose contributions don't pass to a loop around.
-abbrev pub own_operation : Localities → ℕ → Option ReduceOp
-own_operation known variable = if known.passed variable then None else by (known.locality variable)
+abbrev pub operation_here : Localities → ℕ → Option ReduceOp
+operation_here localities variable = if localities.passed variable then None else by (localities.locality variable)
   where
     by : Locality → Option ReduceOp
     by (Locality.Reduce op) = Some op
@@ -57,16 +57,16 @@ own_operation known variable = if known.passed variable then None else by (known
 
 -- The definition of a REDUCE element: its value outside combined with all contributions.
 abbrev pub reduced : Localities → ℕ → List (List Entry) → Store → ElementId → Option Entry
-reduced known line runs store x = with_operation (own_operation known x.variable) (value_at store x)
+reduced localities line runs store x = with_operation (operation_here localities x.variable) (value_at store x)
   where
     with_operation : Option ReduceOp → Option ℤ → Option Entry
-    with_operation (Some op) (Some value) = Some (Defines x (combined_with op (known.kind x.variable) value (contributed x runs)) line)
+    with_operation (Some op) (Some value) = Some (Defines x (combined_with op (localities.kind x.variable) value (contributed x runs)) line)
     with_operation op value = None
 
 -- The definitions of the elements of reductions, in store order, where there was an iteration.
 abbrev pub reductions : Localities → ℕ → List (List Entry) → Store → List Entry
-reductions known line [] store = []
-reductions known line runs store = filter_map (reduced known line runs store) (elements_of store)
+reductions localities line [] store = []
+reductions localities line runs store = filter_map (reduced localities line runs store) (elements_of store)
 
 -- ---- contributions that pass to the loop around
 
@@ -76,11 +76,11 @@ is_contribution_to x entry = false
 
 -- The contributions to one element, where its reduction is that of a loop around, in the order of the runs.
 abbrev pub passed_to : Localities → List (List Entry) → ElementId → List Entry
-passed_to known runs x = if known.passed x.variable then flat_map (filter (is_contribution_to x)) runs else []
+passed_to localities runs x = if localities.passed x.variable then flat_map (filter (is_contribution_to x)) runs else []
 
 -- All of these, the elements in store order.
 abbrev pub passed_on : Localities → List (List Entry) → Store → List Entry
-passed_on known runs store = flat_map (passed_to known runs) (elements_of store)
+passed_on localities runs store = flat_map (passed_to localities runs) (elements_of store)
 
 -- ---- all changes, and the closing store
 
@@ -88,10 +88,10 @@ passed_on known runs store = flat_map (passed_to known runs) (elements_of store)
 -- around, and the reductions. Each of the three is in store order, and the contributions to one element that
 -- pass are in the order of the runs.
 abbrev pub changes : Localities → ℕ → List (List Entry) → Store → List Entry
-changes known line runs store =
-    map (λ x. Undefines x line) (forgotten known runs store)
-    ++ (passed_on known runs store ++ reductions known line runs store)
+changes localities line runs store =
+    map (λ x. Undefines x line) (forgotten localities runs store)
+    ++ (passed_on localities runs store ++ reductions localities line runs store)
 
 -- The closing store, of the one that the iterations leave.
 abbrev pub closing : Localities → ℕ → List (List Entry) → Store → Store
-closing known line runs store = store_after (changes known line runs store) store
+closing localities line runs store = store_after (changes localities line runs store) store

@@ -8,9 +8,9 @@ pub record Span : Type 0 where
   pub last : ℤ
   pub step : ℤ
 
-abbrev pub at_least_none : ℤ → ℕ
-at_least_none (pos n) = n
-at_least_none (negsuc n) = 0
+abbrev pub natural : ℤ → ℕ
+natural (pos n) = n
+natural (negsuc n) = 0
 
 -- A step of zero, with which an index has no values: a loop whose header leaves one comes to a fault.
 abbrev pub has_zero_step : Span → Bool
@@ -22,7 +22,7 @@ has_zero_step span = by span.step
 
 -- How many values the index takes, in exact numbers, where its step isn't zero.
 abbrev pub value_count : Span → ℕ
-value_count span = at_least_none (int_div ((span.last -ℤ span.first) +ℤ span.step) span.step)
+value_count span = natural (int_div ((span.last -ℤ span.first) +ℤ span.step) span.step)
 
 abbrev pub values_from : ℤ → ℤ → ℕ → List ℤ
 values_from value step zero = []

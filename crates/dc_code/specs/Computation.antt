@@ -49,30 +49,30 @@ pub record Run (E T A : Type 0) : Type 0 where
   pub store : Store
   pub reached : Reached E T A
 
-abbrev pub ended : {E T A : Type 0} → Store → Reached E T A → Run E T A
-ended store reached = record { entries = []; store = store; reached = reached }
+abbrev pub without_entries : {E T A : Type 0} → Store → Reached E T A → Run E T A
+without_entries store reached = record { entries = []; store = store; reached = reached }
 
-abbrev pub behind : {E T A : Type 0} → List Entry → Run E T A → Run E T A
-behind entries run = record { entries = entries ++ run.entries; store = run.store; reached = run.reached }
+abbrev pub behind_entries : {E T A : Type 0} → List Entry → Run E T A → Run E T A
+behind_entries entries run = record { entries = entries ++ run.entries; store = run.store; reached = run.reached }
 
 abbrev pub over : {E T A : Type 0} → Store → Computation E T A → Run E T A
-over store (give a) = ended store (done a)
-over store (fail trouble) = ended store (bad trouble)
-over store (read x line rest) = behind (Reads x line ∷ []) (over store (rest (value_at store x)))
-over store (define x value line rest) = behind (Defines x value line ∷ []) (over (put_at store x (Some value)) rest)
-over store (undefine x line rest) = behind (Undefines x line ∷ []) (over (put_at store x None) rest)
-over store (contribute x op value rest) = behind (Contributes x op value ∷ []) (over store rest)
+over store (give a) = without_entries store (done a)
+over store (fail trouble) = without_entries store (bad trouble)
+over store (read x line rest) = behind_entries (Reads x line ∷ []) (over store (rest (value_at store x)))
+over store (define x value line rest) = behind_entries (Defines x value line ∷ []) (over (put_at store x (Some value)) rest)
+over store (undefine x line rest) = behind_entries (Undefines x line ∷ []) (over (put_at store x None) rest)
+over store (contribute x op value rest) = behind_entries (Contributes x op value ∷ []) (over store rest)
 over store (ask variable rest) = over store (rest (bounds_of store variable))
-over store (pause event rest) = ended store (paused event rest)
+over store (pause event rest) = without_entries store (paused event rest)
 
 -- What follows where a run has ended.
 abbrev pub followed : {E T A B : Type 0} → Run E T A → (A → Computation E T B) → Run E T B
-followed run next = behind run.entries (from run.store run.reached next)
+followed run next = behind_entries run.entries (from run.store run.reached next)
   where
     from : {E T A B : Type 0} → Store → Reached E T A → (A → Computation E T B) → Run E T B
     from store (done a) next = over store (next a)
-    from store (bad trouble) next = ended store (bad trouble)
-    from store (paused event rest) next = ended store (paused event (λ told. sequence (rest told) next))
+    from store (bad trouble) next = without_entries store (bad trouble)
+    from store (paused event rest) next = without_entries store (paused event (λ told. sequence (rest told) next))
 
 -- Two stores have the same elements and bounds.
 pub record SameShape (first second : Store) : Type 0 where

@@ -5,7 +5,7 @@ use Rattle.dc_int.specs.Entries.{Entry, Reads, Defines, firsts, exposes, last_st
 use Rattle.dc_int.specs.Store.{Store, value_at}
 use Rattle.dc_code.specs.Closing.{changes}
 use Rattle.dc_code.specs.Computation.{Reached, done, bad, paused, over}
-use Rattle.dc_code.specs.Loops.{Form, Opened, opened, iterations_of, Orders, Passage, Parts, alone, Ordered, order}
+use Rattle.dc_code.specs.Loops.{Form, HeaderResult, header_of, iterations_of, Orders, Passage, Loop, alone, Ordered, order}
 use Rattle.dc_code.specs.Orders.{as_ordered, turned}
 use Rattle.dc_code.specs.Passages.{Entering, ended_well, through}
 use Rattle.dc_code.specs.Troubles.{Trouble, Slots, inside}
@@ -58,48 +58,48 @@ by_entries store entries turns orders trouble =
 -- Everything below begins with the entries that the header of the loop made.
 
 -- A loop that ends with trouble: the block around makes the entries of these iterations.
-abbrev pub stopped : Parts → Store → List Entry → List (List Entry) → Orders → Trouble → Passage
-stopped parts store header runs orders trouble = by_entries store (header ++ added parts.form.line runs) 0 orders (Some trouble)
+abbrev pub stopped : Loop → Store → List Entry → List (List Entry) → Orders → Trouble → Passage
+stopped loop store header runs orders trouble = by_entries store (header ++ added loop.form.line runs) 0 orders (Some trouble)
 
 -- A loop that goes on, by its iterations in an order: their entries, and the changes at its end.
-abbrev pub gone_on : Parts → Store → List Entry → ℕ → Ordered → Passage
-gone_on parts store header turns ordered =
-    let line = parts.form.line in
-    by_entries store (header ++ (added line ordered.runs ++ changes parts.form.known line ordered.runs ordered.store)) turns ordered.orders None
+abbrev pub gone_on : Loop → Store → List Entry → ℕ → Ordered → Passage
+gone_on loop store header turns ordered =
+    let line = loop.form.line in
+    by_entries store (header ++ (added line ordered.runs ++ changes loop.form.localities line ordered.runs ordered.store)) turns ordered.orders None
 
 -- A loop that is judged: the trouble that the verdict tells of, with the iterations taken alone; or the
 -- iterations in the first of the orders.
-abbrev pub told_by : Parts → Store → List Entry → Orders → List (List ℤ) → ℕ → Option Trouble → Passage
-told_by parts store header orders iterations turns (Some trouble) =
-    stopped parts store header (up_to_bad (map (alone parts store) iterations)) orders trouble
-told_by parts store header orders iterations turns None =
-    gone_on parts store header turns (order parts (drop 1 orders) store (as_ordered orders iterations))
+abbrev pub told_by : Loop → Store → List Entry → Orders → List (List ℤ) → ℕ → Option Trouble → Passage
+told_by loop store header orders iterations turns (Some trouble) =
+    stopped loop store header (up_to_bad (map (alone loop store) iterations)) orders trouble
+told_by loop store header orders iterations turns None =
+    gone_on loop store header turns (order loop (drop 1 orders) store (as_ordered orders iterations))
 
 -- A loop that isn't judged, by its iterations in an order.
-abbrev pub unjudged : Parts → Store → List Entry → ℕ → List (List ℤ) → Ordered → Passage
-unjudged parts store header turns iterations ordered = by ordered.trouble (slice_get iterations (length ordered.runs - 1))
+abbrev pub unjudged : Loop → Store → List Entry → ℕ → List (List ℤ) → Ordered → Passage
+unjudged loop store header turns iterations ordered = by ordered.trouble (slice_get iterations (length ordered.runs - 1))
   where
     by : Option Trouble → Option (List ℤ) → Passage
-    by (Some trouble) (Some at) = stopped parts store header ordered.runs ordered.orders (inside at trouble)
-    by trouble at = gone_on parts store header turns ordered
+    by (Some trouble) (Some at) = stopped loop store header ordered.runs ordered.orders (inside at trouble)
+    by trouble at = gone_on loop store header turns ordered
 
 -- In the order of a number, behind a header that ended so.
-abbrev pub unjudged_turned : ℕ → Parts → Store → List Entry → Orders → Reached ⊥ Trouble Opened → Passage
-unjudged_turned number parts store header orders (bad trouble) = stopped parts store header [] orders trouble
-unjudged_turned number parts store header orders (done opening) =
-    let iterations = turned number opening.iterations in
-    unjudged parts store header opening.turns iterations (order parts orders store iterations)
-unjudged_turned number parts store header orders (paused event rest) = absurd event
+abbrev pub unjudged_turned : ℕ → Loop → Store → List Entry → Orders → Reached ⊥ Trouble HeaderResult → Passage
+unjudged_turned number loop store header orders (bad trouble) = stopped loop store header [] orders trouble
+unjudged_turned number loop store header orders (done given) =
+    let iterations = turned number given.iterations in
+    unjudged loop store header given.turns iterations (order loop orders store iterations)
+unjudged_turned number loop store header orders (paused event rest) = absurd event
 
 -- A loop inside, with the turns of the block around, the store with which it is reached, and the orders that
 -- are left. Its verdict is that of any loop.
-abbrev pub inner : Rule → Parts → ℕ → Store → Orders → Passage
-inner judging parts turns store orders =
-    let header = over store (opened parts.form turns) in
-    let said = judgement parts turns store in
-    told_by parts store header.entries orders (iterations_of header.reached) said.turns (trouble_in said.verdict)
-inner (in_order number) parts turns store orders =
-    let header = over store (opened parts.form turns) in unjudged_turned number parts store header.entries orders header.reached
+abbrev pub inner : Rule → Loop → ℕ → Store → Orders → Passage
+inner judging loop turns store orders =
+    let header = over store (header_of loop.form turns) in
+    let said = judgement loop turns store in
+    told_by loop store header.entries orders (iterations_of header.reached) said.turns (trouble_in said.verdict)
+inner (in_order number) loop turns store orders =
+    let header = over store (header_of loop.form turns) in unjudged_turned number loop store header.entries orders header.reached
 
 -- ---- the loops of a program
 
@@ -109,14 +109,14 @@ abbrev pub Forms : Type 0
 Forms = ℕ → Slots → Form
 
 -- The block of a loop, where loops inside are run so.
-abbrev pub parts_with : Entering → Form → Parts
-parts_with enter form = record { form = form; block = λ store orders at. through enter store orders (form.block (map (value_at store) form.copied) at) }
+abbrev pub loop_with : Entering → Form → Loop
+loop_with enter form = record { form = form; block = λ store orders at. through enter store orders (form.block (map (value_at store) form.copied) at) }
 
 -- A loop with those inside it, to so many levels.
-abbrev pub parts : Rule → Forms → ℕ → ℕ → Slots → Parts
-parts rule forms zero number slots = parts_with (λ inside turns around store orders. ended_well store turns orders) (forms number slots)
-parts rule forms (suc depth) number slots =
-    parts_with (λ inside turns around store orders. inner rule (parts rule forms depth inside around) turns store orders) (forms number slots)
+abbrev pub nested_loop : Rule → Forms → ℕ → ℕ → Slots → Loop
+nested_loop rule forms zero number slots = loop_with (λ inside turns around store orders. ended_well store turns orders) (forms number slots)
+nested_loop rule forms (suc depth) number slots =
+    loop_with (λ inside turns around store orders. inner rule (nested_loop rule forms depth inside around) turns store orders) (forms number slots)
 
 -- No program has more levels.
 abbrev pub greatest_depth : ℕ

@@ -17,7 +17,7 @@ use Rattle.dc_code.specs.declared.verdict.Race.{Race}
 use Rattle.dc_code.specs.Breaks.{breaks}
 use Rattle.dc_code.specs.Closing.{Localities}
 use Rattle.dc_code.specs.Computation.{Computation, give, fail, read, define, undefine, contribute, ask, pause, SameShape, FirstDifference}
-use Rattle.dc_code.specs.Loops.{Form, Copies, Orders, Passage, Parts, Ordered, alone, order, closed}
+use Rattle.dc_code.specs.Loops.{Form, Copies, Orders, Passage, Loop, Ordered, alone, order, closed}
 use Rattle.dc_code.specs.Pairs.{clashes, first_clash}
 use Rattle.dc_code.specs.Troubles.{Trouble}
 use Rattle.dc_code.specs.Verdicts.{Verdict, race}
@@ -56,27 +56,27 @@ pub record SameStart (form : Form) (first second : Store) : Type 0 where
 
 -- What an iteration does is decided by the elements of which it has exposed reads, and is told by its
 -- entries. It leaves no order for a loop inside, where it was given none.
-pub record IsFramed (parts : Parts) : Type 0 where
+pub record IsFramed (loop : Loop) : Type 0 where
   pub alike
-      : (first second : Store) (at : List ℤ) → SameStart parts.form first second
-      → ((x : ElementId) → exposes x (alone parts first at).entries ≡ true → value_at first x ≡ value_at second x)
-      → SamePassage (alone parts first at) (alone parts second at)
-  pub replayed : (store : Store) (at : List ℤ) → (alone parts store at).store ≡ store_after (alone parts store at).entries store
-  pub orders : (store : Store) (at : List ℤ) → (alone parts store at).orders ≡ []
+      : (first second : Store) (at : List ℤ) → SameStart loop.form first second
+      → ((x : ElementId) → exposes x (alone loop first at).entries ≡ true → value_at first x ≡ value_at second x)
+      → SamePassage (alone loop first at) (alone loop second at)
+  pub replayed : (store : Store) (at : List ℤ) → (alone loop store at).store ≡ store_after (alone loop store at).entries store
+  pub orders : (store : Store) (at : List ℤ) → (alone loop store at).orders ≡ []
 
 -- Over two stores on which it begins alike, an iteration does the same, or its entries differ first at a
 -- read.
-pub record DiffersAtRead (parts : Parts) : Type 0 where
+pub record DiffersAtRead (loop : Loop) : Type 0 where
   pub differs
-      : (first second : Store) (at : List ℤ) → SameStart parts.form first second
-      → SamePassage (alone parts first at) (alone parts second at)
-      ⊎ FirstDifference first second (alone parts first at).entries (alone parts second at).entries
+      : (first second : Store) (at : List ℤ) → SameStart loop.form first second
+      → SamePassage (alone loop first at) (alone loop second at)
+      ⊎ FirstDifference first second (alone loop first at).entries (alone loop second at).entries
 
 -- ---- orders
 
 -- The order has one run, that of the iteration alone, and ends with this trouble.
-pub record EndsAt (parts : Parts) (store : Store) (at : List ℤ) (met : Trouble) (ordered : Ordered) : Type 0 where
-  pub runs : ordered.runs ≡ (alone parts store at).entries ∷ []
+pub record EndsAt (loop : Loop) (store : Store) (at : List ℤ) (met : Trouble) (ordered : Ordered) : Type 0 where
+  pub runs : ordered.runs ≡ (alone loop store at).entries ∷ []
   pub trouble : ordered.trouble ≡ Some met
 
 -- ---- races
@@ -127,28 +127,28 @@ may_touch locality = false
 
 -- A contribution is to a REDUCE element, by the operation of its variable, of a value that this combines.
 abbrev pub IsCombinable : Localities → Entry → Type 0
-IsCombinable known (Contributes x op value) =
-    (known.locality x.variable ≡ Locality.Reduce op) × (can_combine op (known.kind x.variable) value ≡ true)
-IsCombinable known entry = Unit
+IsCombinable localities (Contributes x op value) =
+    (localities.locality x.variable ≡ Locality.Reduce op) × (can_combine op (localities.kind x.variable) value ≡ true)
+IsCombinable localities entry = Unit
 
 -- Alone on this store, the iteration with these index values keeps the localities of its loop: it touches only
 -- elements that it may, and none that LOCAL_INIT entities copy, and its contributions can be combined.
-pub record KeepsLocality (parts : Parts) (store : Store) (at : List ℤ) : Type 0 where
-  pub allowed : (x : ElementId) → touches x (alone parts store at).entries ≡ true → may_touch (parts.form.known.locality x.variable) ≡ true
-  pub apart : (x : ElementId) → touches x (alone parts store at).entries ≡ true → list_any (same_element x) parts.form.copied ≡ false
-  pub contributed : All (IsCombinable parts.form.known) (alone parts store at).entries
+pub record KeepsLocality (loop : Loop) (store : Store) (at : List ℤ) : Type 0 where
+  pub allowed : (x : ElementId) → touches x (alone loop store at).entries ≡ true → may_touch (loop.form.localities.locality x.variable) ≡ true
+  pub apart : (x : ElementId) → touches x (alone loop store at).entries ≡ true → list_any (same_element x) loop.form.copied ≡ false
+  pub contributed : All (IsCombinable loop.form.localities) (alone loop store at).entries
 
 -- Each of the iterations does.
-abbrev pub KeepLocality : Parts → Store → List (List ℤ) → Type 0
-KeepLocality parts store iterations = All (KeepsLocality parts store) iterations
+abbrev pub KeepLocality : Loop → Store → List (List ℤ) → Type 0
+KeepLocality loop store iterations = All (KeepsLocality loop store) iterations
 
 -- Each of the iterations, alone on the store, ends well.
-abbrev pub EndWell : Parts → Store → List (List ℤ) → Type 0
-EndWell parts store iterations = All (λ at. (alone parts store at).trouble ≡ None) iterations
+abbrev pub EndWell : Loop → Store → List (List ℤ) → Type 0
+EndWell loop store iterations = All (λ at. (alone loop store at).trouble ≡ None) iterations
 
 -- The entries that each iteration makes alone.
-abbrev pub alone_runs : Parts → Store → List (List ℤ) → List (List Entry)
-alone_runs parts store iterations = map (λ passage. passage.entries) (map (alone parts store) iterations)
+abbrev pub alone_runs : Loop → Store → List (List ℤ) → List (List Entry)
+alone_runs loop store iterations = map (λ passage. passage.entries) (map (alone loop store) iterations)
 
 -- The verdict is a race.
 pub record TellsRace (said : Verdict) : Type 0 where
@@ -158,14 +158,14 @@ pub record TellsRace (said : Verdict) : Type 0 where
   pub is : said ≡ race found first second
 
 -- Nothing is wrong with the iterations: each ends well, and no element of the store clashes.
-pub record NothingWrong (parts : Parts) (store : Store) (iterations : List (List ℤ)) : Type 0 where
-  pub well : EndWell parts store iterations
-  pub clash : first_clash parts.form.known.locality store (alone_runs parts store iterations) ≡ None
+pub record NothingWrong (loop : Loop) (store : Store) (iterations : List (List ℤ)) : Type 0 where
+  pub well : EndWell loop store iterations
+  pub clash : first_clash loop.form.localities.locality store (alone_runs loop store iterations) ≡ None
 
 -- ---- stores that fit the declared variables
 
 -- Over each store that fits, each iteration leaves one that does.
-pub record KeepsFitting (shapes : List Shape) (loop : Parts) : Type 0 where
+pub record KeepsFitting (shapes : List Shape) (loop : Loop) : Type 0 where
   pub each
       : (store : Store) (orders : Orders) (at : List ℤ) → store_fits shapes store ≡ true → store_fits shapes (loop.block store orders at).store ≡ true
 
@@ -184,22 +184,22 @@ DefinesFitting shapes (pause event rest) = (told : ℤ) → DefinesFitting shape
 
 -- The loop takes its REDUCE variables as they are declared: of their kind, and of LOGICAL where their operation
 -- is one on LOGICAL.
-pub record MatchesShapes (known : Localities) (shapes : List Shape) : Type 0 where
+pub record MatchesShapes (localities : Localities) (shapes : List Shape) : Type 0 where
   pub reduces
-      : (variable : ℕ) (op : ReduceOp) (shape : Shape) → known.locality variable ≡ Locality.Reduce op → slice_get shapes variable ≡ Some shape
-      → (known.kind variable ≡ shape.kind) × (is_logical op ≡ shape.logical)
+      : (variable : ℕ) (op : ReduceOp) (shape : Shape) → localities.locality variable ≡ Locality.Reduce op → slice_get shapes variable ≡ Some shape
+      → (localities.kind variable ≡ shape.kind) × (is_logical op ≡ shape.logical)
 
 -- In this order all iterations end well, no two break the restriction of an element of the store, and the
 -- loop ends with this store.
-pub record EndsWith (loop : Parts) (store : Store) (ordered : List (List ℤ)) (after : Store) : Type 0 where
+pub record EndsWith (loop : Loop) (store : Store) (ordered : List (List ℤ)) (after : Store) : Type 0 where
   pub well : (order loop [] store ordered).trouble ≡ None
   pub unbroken
       : (x : ElementId) → is_some (cell_of store x) ≡ true
-      → clashes (loop.form.known.locality x.variable) x (order loop [] store ordered).runs ≡ false
+      → clashes (loop.form.localities.locality x.variable) x (order loop [] store ordered).runs ≡ false
   pub closing : closed loop (order loop [] store ordered) ≡ after
 
 -- This order ends with the same store as the ascending one, and each iteration makes the entries that it makes
 -- alone.
-pub record EndsAlike (parts : Parts) (store : Store) (iterations ordered : List (List ℤ)) : Type 0 where
-  pub runs : (order parts [] store ordered).runs ≡ alone_runs parts store ordered
-  pub ends : EndsWith parts store ordered (closed parts (order parts [] store iterations))
+pub record EndsAlike (loop : Loop) (store : Store) (iterations ordered : List (List ℤ)) : Type 0 where
+  pub runs : (order loop [] store ordered).runs ≡ alone_runs loop store ordered
+  pub ends : EndsWith loop store ordered (closed loop (order loop [] store iterations))

@@ -20,7 +20,7 @@ Copies = List (Option ℤ)
 -- own; the header spends those that it is given, and gives what it leaves, as a block does.
 pub record Form : Type 0 where
   pub line : ℕ
-  pub known : Localities
+  pub localities : Localities
   -- the elements that LOCAL_INIT entities copy, and the elements of its own reductions, in store order
   pub copied : List ElementId
   pub combines : List ElementId
@@ -31,12 +31,12 @@ pub record Form : Type 0 where
 -- ---- the header
 
 -- What the header of a loop does. It comes to no pause: the standard has no statement in a header.
-abbrev pub Opening : Type 0 → Type 0
-Opening A = Computation ⊥ Trouble A
+abbrev pub HeaderComputing : Type 0 → Type 0
+HeaderComputing A = Computation ⊥ Trouble A
 
 -- A part of a source or a code as a part of the header, with its failures told as the header's. A pause, to
 -- which no limit and no mask comes, is told 0, as one of a block is.
-abbrev pub in_header : {A : Type 0} → (Failure → Trouble) → Computing A → Opening A
+abbrev pub in_header : {A : Type 0} → (Failure → Trouble) → Computing A → HeaderComputing A
 in_header tell (give a) = give a
 in_header tell (fail failure) = fail (tell failure)
 in_header tell (read x line rest) = read x line (λ state. in_header tell (rest state))
@@ -54,7 +54,7 @@ abbrev pub greatest_count : ℕ
 greatest_count = 4194304
 
 -- A fault of the header itself.
-abbrev pub header_fault : {A : Type 0} → FaultKind → ℕ → Opening A
+abbrev pub header_fault : {A : Type 0} → FaultKind → ℕ → HeaderComputing A
 header_fault kind line = fail (ended (Why.Fault kind) line [])
 
 abbrev pub are_too_many : List Span → Bool
@@ -62,14 +62,14 @@ are_too_many spans = nat_lt greatest_count (combination_count spans)
 
 -- The combinations, unless a step is zero or there are too many. The header of a source finds a zero step by
 -- itself, before it goes on to the next index; here it is found where a header leaves one.
-abbrev pub combined_values : ℕ → List Span → Opening (List (List ℤ))
+abbrev pub combined_values : ℕ → List Span → HeaderComputing (List (List ℤ))
 combined_values line spans =
     if list_any has_zero_step spans then header_fault FaultKind.StepZero line
     else if are_too_many spans then header_fault FaultKind.TooManyIterations line
     else give (combinations spans)
 
 -- Those of the combinations for which the mask is true.
-abbrev pub active : (List ℤ → Computing Bool) → List (List ℤ) → Opening (List (List ℤ))
+abbrev pub active : (List ℤ → Computing Bool) → List (List ℤ) → HeaderComputing (List (List ℤ))
 active mask [] = give []
 active mask (at ∷ rest) = do
   holds ← in_header (in_mask at) (mask at)
@@ -77,13 +77,13 @@ active mask (at ∷ rest) = do
   give (if holds then at ∷ others else others)
 
 -- A read of each element, without a fault; it gives whether all of them are defined.
-abbrev pub read_all : ℕ → List ElementId → Opening Bool
+abbrev pub read_all : ℕ → List ElementId → HeaderComputing Bool
 read_all line [] = give true
 read_all line (x ∷ elements) = read x line (λ state. read_all line elements >>= (λ others. give (if is_some state then others else false)))
 
 -- Where there is an iteration, the elements that its entities begin with are read, and each element of
 -- a reduction has to be defined.
-abbrev pub begun : Form → List (List ℤ) → Opening Unit
+abbrev pub begun : Form → List (List ℤ) → HeaderComputing Unit
 begun form [] = give tt
 begun form iterations = do
   copied ← read_all form.line form.copied
@@ -91,13 +91,13 @@ begun form iterations = do
   if defined then give tt else header_fault FaultKind.Undefined form.line
 
 -- The iterations, each by the values of its indexes, and the turns left.
-pub record Opened : Type 0 where
+pub record HeaderResult : Type 0 where
   pub iterations : List (List ℤ)
   pub turns : ℕ
 
 -- The header: the limits and steps, the combinations, the mask of each, and the reductions.
-abbrev pub opened : Form → ℕ → Opening Opened
-opened form turns = do
+abbrev pub header_of : Form → ℕ → HeaderComputing HeaderResult
+header_of form turns = do
   (spans, left) ← in_header in_statement (form.header turns)
   values ← combined_values form.line spans
   iterations ← active form.mask values
@@ -105,8 +105,8 @@ opened form turns = do
   give (record { iterations = iterations; turns = left })
 
 -- The iterations that a header gives, and none where it met trouble.
-abbrev pub iterations_of : Reached ⊥ Trouble Opened → List (List ℤ)
-iterations_of (done opening) = opening.iterations
+abbrev pub iterations_of : Reached ⊥ Trouble HeaderResult → List (List ℤ)
+iterations_of (done given) = given.iterations
 iterations_of other = []
 
 -- ---- iterations
@@ -125,13 +125,13 @@ pub record Passage : Type 0 where
   pub trouble : Option Trouble
 
 -- A loop whose block runs over a store, with orders for the loops inside.
-pub record Parts : Type 0 where
+pub record Loop : Type 0 where
   pub form : Form
   pub block : Store → Orders → List ℤ → Passage
 
 -- An iteration alone: over the opening store, with fresh entities.
-abbrev pub alone : Parts → Store → List ℤ → Passage
-alone parts store at = parts.block store [] at
+abbrev pub alone : Loop → Store → List ℤ → Passage
+alone loop store at = loop.block store [] at
 
 -- What the iterations of an order did, each by its entries, with the store and the orders after. The last
 -- one may have met trouble.
@@ -154,10 +154,10 @@ behind_one passage rest =
 
 -- Iterations in an order: one after the other over one store, each with fresh entities, up to the first
 -- that doesn't end well.
-abbrev pub order : Parts → Orders → Store → List (List ℤ) → Ordered
-order parts orders store [] = nothing_done store orders None
-order parts orders store (at ∷ rest) = behind_one (parts.block store orders at) (λ left after. order parts left after rest)
+abbrev pub order : Loop → Orders → Store → List (List ℤ) → Ordered
+order loop orders store [] = nothing_done store orders None
+order loop orders store (at ∷ rest) = behind_one (loop.block store orders at) (λ left after. order loop left after rest)
 
 -- The store with which a loop ends after an order in which all iterations ended well.
-abbrev pub closed : Parts → Ordered → Store
-closed parts ordered = closing parts.form.known parts.form.line ordered.runs ordered.store
+abbrev pub closed : Loop → Ordered → Store
+closed loop ordered = closing loop.form.localities loop.form.line ordered.runs ordered.store

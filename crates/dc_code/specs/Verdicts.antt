@@ -12,7 +12,7 @@ use Rattle.dc_code.specs.declared.verdict.Race.{Race}
 use Rattle.dc_code.specs.declared.verdict.Verdict as answers
 use Rattle.dc_code.specs.Breaks.{first_break, named_beside}
 use Rattle.dc_code.specs.Computation.{Reached, done, bad, paused, over}
-use Rattle.dc_code.specs.Loops.{Parts, Passage, Opened, opened, alone, order, closed}
+use Rattle.dc_code.specs.Loops.{Loop, Passage, HeaderResult, header_of, alone, order, closed}
 use Rattle.dc_code.specs.Pairs.{first_clash, pair}
 use Rattle.dc_code.specs.Troubles.{Trouble, Side, ended, masked, raced, inside}
 
@@ -57,19 +57,19 @@ race_in locality i j (first ∷ second ∷ []) = race_of locality i j first seco
 race_in locality i j runs = None
 
 -- The race of a pair (i, j), which is run again, i and then j, over one store.
-abbrev pub race_between : Parts → Store → List (List ℤ) → ℕ × ℕ → Option Verdict
-race_between parts store iterations (i, j) = do
+abbrev pub race_between : Loop → Store → List (List ℤ) → ℕ × ℕ → Option Verdict
+race_between loop store iterations (i, j) = do
   first ← slice_get iterations i
   second ← slice_get iterations j
-  found ← race_in parts.form.known.locality i j (order parts [] store (first ∷ second ∷ [])).runs
+  found ← race_in loop.form.localities.locality i j (order loop [] store (first ∷ second ∷ [])).runs
   Some (race found first second)
 
 -- The race that the least clashing element names, if one clashes.
-abbrev pub race_among : Parts → Store → List (List ℤ) → List (List Entry) → Option Verdict
-race_among parts store iterations runs = do
-  x ← first_clash parts.form.known.locality store runs
-  named ← pair (parts.form.known.locality x.variable) x runs
-  race_between parts store iterations named
+abbrev pub race_among : Loop → Store → List (List ℤ) → List (List Entry) → Option Verdict
+race_among loop store iterations runs = do
+  x ← first_clash loop.form.localities.locality store runs
+  named ← pair (loop.form.localities.locality x.variable) x runs
+  race_between loop store iterations named
 
 -- ---- the verdict on iterations
 
@@ -79,13 +79,13 @@ first_of None (Some verdict) = verdict
 first_of None None = go_on
 
 -- The verdict by what each iteration does alone.
-abbrev pub judged : Parts → Store → List (List ℤ) → List Passage → Verdict
-judged parts store iterations passages =
-    first_of (bad_iteration iterations passages) (race_among parts store iterations (map (λ passage. passage.entries) passages))
+abbrev pub judged : Loop → Store → List (List ℤ) → List Passage → Verdict
+judged loop store iterations passages =
+    first_of (bad_iteration iterations passages) (race_among loop store iterations (map (λ passage. passage.entries) passages))
 
 -- The verdict on these iterations, over the store with which the loop is reached.
-abbrev pub verdict : Parts → Store → List (List ℤ) → Verdict
-verdict parts store iterations = judged parts store iterations (map (alone parts store) iterations)
+abbrev pub verdict : Loop → Store → List (List ℤ) → Verdict
+verdict loop store iterations = judged loop store iterations (map (alone loop store) iterations)
 
 -- ---- the verdict on a loop
 
@@ -101,14 +101,14 @@ stays store said = record { verdict = said; store = store; turns = 0 }
 
 -- By the verdict on the iterations that a header gave. Where the loop goes on, the store behind it is the
 -- closing store of the iterations in ascending order.
-abbrev pub visited_by : Parts → Store → Opened → Verdict → Visited
-visited_by loop store opening go_on = record { verdict = go_on; store = closed loop (order loop [] store opening.iterations); turns = opening.turns }
-visited_by loop store opening said = stays store said
+abbrev pub visited_by : Loop → Store → HeaderResult → Verdict → Visited
+visited_by loop store given go_on = record { verdict = go_on; store = closed loop (order loop [] store given.iterations); turns = given.turns }
+visited_by loop store given said = stays store said
 
 -- By how the header ended: with its trouble, or with the iterations.
-abbrev pub judged_by : Parts → Store → Reached ⊥ Trouble Opened → Visited
+abbrev pub judged_by : Loop → Store → Reached ⊥ Trouble HeaderResult → Visited
 judged_by loop store (bad trouble) = stays store (at_header trouble)
-judged_by loop store (done opening) = visited_by loop store opening (verdict loop store opening.iterations)
+judged_by loop store (done given) = visited_by loop store given (verdict loop store given.iterations)
 judged_by loop store (paused event rest) = absurd event
 
 -- The verdict on a loop that is reached with so many turns over this store, and what is behind it: the first of
@@ -117,8 +117,8 @@ judged_by loop store (paused event rest) = absurd event
 -- 2. The trouble of the least iteration that, alone, doesn't end well.
 -- 3. A race, where an element clashes.
 -- 4. The loop goes on, with the closing store.
-abbrev pub judgement : Parts → ℕ → Store → Visited
-judgement loop turns store = judged_by loop store (over store (opened loop.form turns)).reached
+abbrev pub judgement : Loop → ℕ → Store → Visited
+judgement loop turns store = judged_by loop store (over store (header_of loop.form turns)).reached
 
 -- ---- as trouble
 

@@ -17,7 +17,7 @@ use Rattle.dc_meaning.specs.declared.stop.Stop.{Stop}
 use Rattle.dc_meaning.specs.Acts.{◌>>=◌}
 use Rattle.dc_meaning.specs.Actions.{act}
 use Rattle.dc_meaning.specs.Execution.{loops_in, exec, exec_all, behind_item}
-use Rattle.dc_meaning.specs.Standing.{is_small_line}
+use Rattle.dc_meaning.specs.WalkScope.{is_small_line}
 use Rattle.dc_meaning.specs.Values.{Callee}
 use Rattle.dc_meaning.specs.Walking.{View, Walks}
 use Rattle.dc_meaning.proofs.Walking.{walks-as, walks-then, walks-bad}

@@ -8,9 +8,9 @@ use Rattle.dc_int.specs.Shapes.{store_fits}
 use Rattle.dc_int.specs.Store.{Store, value_at, same_element}
 use Rattle.dc_code.specs.Computation.{over}
 use Rattle.dc_code.specs.EveryOrder.{SaysOfOrders}
-use Rattle.dc_code.specs.Inner.{judging, parts, inner, parts_with, greatest_depth}
+use Rattle.dc_code.specs.Inner.{judging, nested_loop, inner, loop_with, greatest_depth}
 use Rattle.dc_code.specs.Laws.{HasPlainBlocks, KeepsLocality, IsCombinable, MatchesShapes, KeepsFitting, may_touch}
-use Rattle.dc_code.specs.Loops.{Form, Copies, Passage, opened, iterations_of}
+use Rattle.dc_code.specs.Loops.{Form, Copies, Passage, header_of, iterations_of}
 use Rattle.dc_code.specs.Passages.{Entering}
 use Rattle.dc_code.specs.Troubles.{Slots, Computing}
 use Rattle.dc_code.specs.Visits.{visited}
@@ -37,7 +37,7 @@ use Rattle.dc_meaning.proofs.Visitable.{all-plain}
 -- contribution.
 record IsPlain (form : Form) : Type 0 where
   only : (copies : Copies) (at : List ℤ) → Only AnyElement Any (form.block copies at)
-  locality : form.known.locality ≡ plain
+  locality : form.localities.locality ≡ plain
   copied : form.copied ≡ []
 
 module _ (symbols : List Symbol) (source : Source) (small : is_small_program symbols source ≡ true) (turns number : ℕ) (around : Slots) where
@@ -75,41 +75,41 @@ module _ (symbols : List Symbol) (source : Source) (small : is_small_program sym
   never-pauses copies at = only-quiet AnyElement Any (form.block copies at) (form-plain.only copies at)
 
   abbrev enter : Entering
-  enter inside left slots store orders = inner judging (parts judging (program_forms symbols source turns) 63 inside slots) left store orders
+  enter inside left slots store orders = inner judging (nested_loop judging (program_forms symbols source turns) 63 inside slots) left store orders
 
-  keeps-locality : (store : Store) (at : List ℤ) → KeepsLocality (parts_with enter form) store at
+  keeps-locality : (store : Store) (at : List ℤ) → KeepsLocality (loop_with enter form) store at
   keeps-locality store at = record {
     allowed = λ x touched. ap (λ (locality : ℕ → Locality). may_touch (locality x.variable)) form-plain.locality;
     apart = λ x touched. ap (list_any (same_element x)) form-plain.copied;
     contributed =
         let block : Computing ℕ = form.block (map (value_at store) form.copied) at in
-        subst (λ (passage : Passage). All (IsCombinable form.known) passage.entries)
+        subst (λ (passage : Passage). All (IsCombinable form.localities) passage.entries)
         (sym (through-over enter store [] block (never-pauses (map (value_at store) form.copied) at)))
-        (only-contributes AnyElement Any form.known store block (form-plain.only (map (value_at store) form.copied) at));
+        (only-contributes AnyElement Any form.localities store block (form-plain.only (map (value_at store) form.copied) at));
   }
 
-  holds-combinable : (store : Store) → HoldsCombinable form.known store
+  holds-combinable : (store : Store) → HoldsCombinable form.localities store
   holds-combinable store = λ x op value reduces has.
-      let plainly : form.known.locality x.variable ≡ Locality.Plain = ap (λ (locality : ℕ → Locality). locality x.variable) form-plain.locality in
+      let plainly : form.localities.locality x.variable ≡ Locality.Plain = ap (λ (locality : ℕ → Locality). locality x.variable) form-plain.locality in
       absurd (let no : Locality.Plain ≡ Locality.Reduce op = sym plainly ∙ reduces in cc)
 
-  loop-fits : (shapes : List Shape) → AreDefault shapes → KeepsFitting shapes (parts_with enter form)
+  loop-fits : (shapes : List Shape) → AreDefault shapes → KeepsFitting shapes (loop_with enter form)
   loop-fits shapes all =
       plain-fits shapes enter form never-pauses (λ copies at. only-defines AnyElement Any shapes all (form.block copies at) (form-plain.only copies at))
 
-  no-reduction : (shapes : List Shape) → MatchesShapes form.known shapes
+  no-reduction : (shapes : List Shape) → MatchesShapes form.localities shapes
   no-reduction shapes = record {
     reduces = λ variable op shape reduces declared.
-        let plainly : form.known.locality variable ≡ Locality.Plain = ap (λ (locality : ℕ → Locality). locality variable) form-plain.locality in
+        let plainly : form.localities.locality variable ≡ Locality.Plain = ap (λ (locality : ℕ → Locality). locality variable) form-plain.locality in
         absurd (let no : Locality.Plain ≡ Locality.Reduce op = sym plainly ∙ reduces in cc);
   }
 
   -- A visit leaves a store that fits INTEGER variables.
   pub visit-fits : (shapes : List Shape) → AreDefault shapes → (left : ℕ) (store : Store) → store_fits shapes store ≡ true
-      → store_fits shapes (visited judging (parts judging (program_forms symbols source turns) greatest_depth number around) left store).store ≡ true
-  visit-fits shapes all left store fits = visited-fits shapes (parts_with enter form) (no-reduction shapes) (loop-fits shapes all) judging left store fits
+      → store_fits shapes (visited judging (nested_loop judging (program_forms symbols source turns) greatest_depth number around) left store).store ≡ true
+  visit-fits shapes all left store fits = visited-fits shapes (loop_with enter form) (no-reduction shapes) (loop-fits shapes all) judging left store fits
 
-  pub loop-says : (left : ℕ) (store : Store) → SaysOfOrders (parts judging (program_forms symbols source turns) greatest_depth number around) left store
+  pub loop-says : (left : ℕ) (store : Store) → SaysOfOrders (nested_loop judging (program_forms symbols source turns) greatest_depth number around) left store
   loop-says left store =
-      says-of-orders (parts_with enter form) store (plain-framed enter form never-pauses) (plain-differs enter form never-pauses) (holds-combinable store) left
-      (all-keep (KeepsLocality (parts_with enter form) store) (iterations_of (over store (opened form left)).reached) (keeps-locality store))
+      says-of-orders (loop_with enter form) store (plain-framed enter form never-pauses) (plain-differs enter form never-pauses) (holds-combinable store) left
+      (all-keep (KeepsLocality (loop_with enter form) store) (iterations_of (over store (header_of form left)).reached) (keeps-locality store))

@@ -9,7 +9,7 @@ use Rattle.dc_int.specs.Kinds.{wrapped}
 use Rattle.dc_int.specs.Sorts.{Sort, whole}
 use Rattle.dc_code.specs.Combinations.{Span, values_of, combinations}
 use Rattle.dc_code.specs.Computation.{give, ◌>>=◌}
-use Rattle.dc_code.specs.Loops.{Form, Opening, opened, active, begun, combined_values, combination_count, greatest_count}
+use Rattle.dc_code.specs.Loops.{Form, HeaderComputing, header_of, active, begun, combined_values, combination_count, greatest_count}
 use Rattle.dc_code.specs.Troubles.{Computing}
 use Rattle.dc_tree.specs.declared.token.Suffix.{Suffix}
 use Rattle.dc_tree.specs.declared.symbols.Symbol.{Symbol}
@@ -91,13 +91,13 @@ combined-all line a b few = rw (few-values a b few) refl
 
 active-all : (values : List (List ℤ)) → active (λ at. give true) values ≡ give values
 active-all [] = refl
-active-all (at ∷ rest) = ap (λ (c : Opening (List (List ℤ))). c >>= (λ others. give (at ∷ others))) (active-all rest)
+active-all (at ∷ rest) = ap (λ (c : HeaderComputing (List (List ℤ))). c >>= (λ others. give (at ∷ others))) (active-all rest)
 
 -- a loop with no mask, no copies and no reductions
 abbrev simple : Form → (ℕ → Computing (List Span × ℕ)) → Form
 simple form header = record {
   line = form.line;
-  known = form.known;
+  localities = form.localities;
   copied = [];
   combines = [];
   header = header;
@@ -110,14 +110,14 @@ begun-none form header [] = refl
 begun-none form header (first ∷ rest) = refl
 
 opened-by : (form : Form) (a b : ℕ) → b ≤ 9999 → (turns : ℕ)
-    → opened (simple form (λ left. give (span a b ∷ [], left))) turns ≡ give (record { iterations = map combination (values_of (span a b)); turns = turns })
+    → header_of (simple form (λ left. give (span a b ∷ [], left))) turns ≡ give (record { iterations = map combination (values_of (span a b)); turns = turns })
 opened-by form a b few turns =
     let header = λ (left : ℕ). give (span a b ∷ [], left) in
     let all = combinations (span a b ∷ []) in
     let last = λ (iterations : List (List ℤ)). begun (simple form header) iterations >>= (λ ready. give (record { iterations = iterations; turns = turns })) in
-    ap (λ (c : Opening (List (List ℤ))). c >>= (λ values. active (λ at. give true) values >>= last)) (combined-all form.line a b few)
-    ∙ ap (λ (c : Opening (List (List ℤ))). c >>= last) (active-all all)
-    ∙ ap (λ (c : Opening Unit). c >>= (λ ready. give (record { iterations = all; turns = turns }))) (begun-none form header all)
+    ap (λ (c : HeaderComputing (List (List ℤ))). c >>= (λ values. active (λ at. give true) values >>= last)) (combined-all form.line a b few)
+    ∙ ap (λ (c : HeaderComputing (List (List ℤ))). c >>= last) (active-all all)
+    ∙ ap (λ (c : HeaderComputing Unit). c >>= (λ ready. give (record { iterations = all; turns = turns }))) (begun-none form header all)
     ∙ ap (λ iterations. give (record { iterations = iterations; turns = turns })) (append-nil (map combination (values_of (span a b))))
 
 -- ---- a loop of the main program
@@ -158,7 +158,7 @@ module _ (within : Surroundings) (symbols : List Symbol) (counted : ℕ) (head :
   simple-is : form_of within found-loop [] ≡ simple (form_of within found-loop []) (λ turns. give (span-here ∷ [], turns))
   simple-is = λ i. record {
     line = head.line;
-    known = localities_of within found-loop;
+    localities = localities_of within found-loop;
     copied = copies-form within symbols counted head body small [] i;
     combines = no-combines found-loop refl within.outsides i;
     header = λ turns. header-is turns i;
@@ -169,8 +169,8 @@ module _ (within : Surroundings) (symbols : List Symbol) (counted : ℕ) (head :
   values-are : values_of span-here ≡ index_values head.says
   values-are = sym (ap index_values small.is ∙ (λ i. values_of (record { first = limit_of (low.is i); last = limit_of (high.is i); step = pos 1 })))
 
-  pub opened-is : (turns : ℕ) → opened (form_of within found-loop []) turns ≡ give (record { iterations = map combination (index_values head.says); turns = turns })
+  pub opened-is : (turns : ℕ) → header_of (form_of within found-loop []) turns ≡ give (record { iterations = map combination (index_values head.says); turns = turns })
   opened-is turns =
-      ap (λ form. opened form turns) simple-is
+      ap (λ form. header_of form turns) simple-is
       ∙ opened-by (form_of within found-loop []) (number_of low.digits) (number_of high.digits) high.few turns
       ∙ ap (λ values. give (record { iterations = map combination values; turns = turns })) values-are

@@ -2,7 +2,7 @@
 use Rattle.std.proofs.Common.{◌≡◌, ℕ, suc, ◌+◌, ◌-◌, ◌<◌, ◌≤◌, [], ◌∷◌, refl, sym, ap, ◌∙◌, arith}
 use Rattle.std.proofs.lemmas.Int.{ints}
 use Rattle.std.specs.Prelude.{ℤ, pos, negsuc, ◌+ℤ◌, ◌-ℤ◌, int_div}
-use Rattle.dc_code.specs.Combinations.{Span, at_least_none, value_count, values_from, values_of}
+use Rattle.dc_code.specs.Combinations.{Span, natural, value_count, values_from, values_of}
 
 abbrev pub span : ℕ → ℕ → Span
 span a b = record { first = pos a; last = pos b; step = pos 1 }
@@ -11,13 +11,13 @@ divided-by-one : (z : ℤ) → int_div z (pos 1) ≡ z
 divided-by-one (pos n) = search (arith)
 divided-by-one (negsuc n) = search (arith)
 
-natural-of : (z : ℤ) (n : ℕ) → z ≡ pos n → at_least_none z ≡ n
-natural-of z n is = ap at_least_none is
+natural-of : (z : ℤ) (n : ℕ) → z ≡ pos n → natural z ≡ n
+natural-of z n is = ap natural is
 
 pub span-count : (a b : ℕ) → value_count (span a b) ≡ b + 1 - a
-span-count a b = ap at_least_none (divided-by-one ((pos b -ℤ pos a) +ℤ pos 1)) ∙ counted ((pos b -ℤ pos a) +ℤ pos 1) refl
+span-count a b = ap natural (divided-by-one ((pos b -ℤ pos a) +ℤ pos 1)) ∙ counted ((pos b -ℤ pos a) +ℤ pos 1) refl
   where
-    counted : (z : ℤ) → z ≡ (pos b -ℤ pos a) +ℤ pos 1 → at_least_none z ≡ b + 1 - a
+    counted : (z : ℤ) → z ≡ (pos b -ℤ pos a) +ℤ pos 1 → natural z ≡ b + 1 - a
     counted (pos n) is = omega (arith, ints, is)
     counted (negsuc n) is = omega (arith, ints, is)
 

@@ -4,7 +4,7 @@ use Rattle.std.specs.Prelude.{Result, ℤ, pos}
 use Rattle.std.proofs.lemmas.List.{at_drop_more}
 use Rattle.dc_int.specs.declared.fault.Why.{Why}
 use Rattle.dc_int.specs.Store.{Store}
-use Rattle.dc_code.specs.Loops.{Parts, alone}
+use Rattle.dc_code.specs.Loops.{Loop, alone}
 use Rattle.dc_code.specs.Troubles.{ended}
 use Rattle.dc_code.specs.Verdicts.{in_iteration, or_later}
 use Rattle.dc_tree.specs.Blocks.{items}
@@ -21,7 +21,7 @@ use Rattle.dc_meaning.specs.Marks.{Marks, marked_runs}
 use Rattle.dc_meaning.specs.Walking.{View, Walks}
 
 -- what the walker does for a task over cells that note nothing yet is an iteration
-pub iterated : (parts : Parts) (task : Task) → IsTask parts task → (given z : ℤ) → given ≡ z → (store : Store) (before after : View) (result : Result (Unit {0}) Stop)
+pub iterated : (parts : Loop) (task : Task) → IsTask parts task → (given z : ℤ) → given ≡ z → (store : Store) (before after : View) (result : Result (Unit {0}) Stop)
     → before ≡ fresh store
     → ((number : ℕ) → Walks (λ done. actions.on) ((Some given ∷ []) ∷ []) before
     (λ call. exec_all (with_index (main_scope task.symbols.now) (index_name (statement task.head.now))) call number (items task.body.now)) after result)
@@ -41,11 +41,11 @@ value-at [] i inside = absurd (omega (arith, inside))
 value-at (z ∷ active) zero inside = refl
 value-at (z ∷ active) (suc i) inside = value-at active i (omega (arith, inside))
 
-first-bad : (parts : Parts) (store : Store) (z : ℤ) (rest : List ℤ) (n : ℕ) (before after : Marks) (why : Why) (line : ℕ)
+first-bad : (parts : Loop) (store : Store) (z : ℤ) (rest : List ℤ) (n : ℕ) (before after : Marks) (why : Why) (line : ℕ)
     → IsOne (alone parts store (combination z)) n before after (Some (why, line)) → bad_of parts store (z ∷ rest) ≡ Some (in_iteration (ended why line []) (combination z))
 first-bad parts store z rest n before after why line is = ap (λ t. or_later (combination z) t (bad_of parts store rest)) is.trouble
 
-pub left-bad : (parts : Parts) (store : Store) (active : List ℤ) (i : ℕ) (given : ℤ) (n : ℕ) (before after : Marks) (why : Why) (line : ℕ)
+pub left-bad : (parts : Loop) (store : Store) (active : List ℤ) (i : ℕ) (given : ℤ) (n : ℕ) (before after : Marks) (why : Why) (line : ℕ)
     → i < length active → given ≡ at_value active i
     → IsOne (alone parts store (combination given)) n before after (Some (why, line))
     → bad_of parts store (drop i active) ≡ Some (in_iteration (ended why line []) (combination (at_value active i)))
@@ -55,11 +55,11 @@ left-bad parts store active i given n before after why line inside same is =
     (subst (λ z. IsOne (alone parts store (combination z)) n before after (Some (why, line))) same is)
 
 -- An iteration that ended well: what is left to be marked and judged.
-pub record Goes (parts : Parts) (store : Store) (active : List ℤ) (i n : ℕ) (before after : Marks) : Type 0 where
+pub record Goes (parts : Loop) (store : Store) (active : List ℤ) (i n : ℕ) (before after : Marks) : Type 0 where
   pub marks : marked_runs (n + 1) (runs_of parts store (drop (i + 1) active)) after ≡ marked_runs n (runs_of parts store (drop i active)) before
   pub bad : bad_of parts store (drop (i + 1) active) ≡ bad_of parts store (drop i active)
 
-pub left-good : (parts : Parts) (store : Store) (active : List ℤ) (i : ℕ) (given : ℤ) (n : ℕ) (before after : Marks)
+pub left-good : (parts : Loop) (store : Store) (active : List ℤ) (i : ℕ) (given : ℤ) (n : ℕ) (before after : Marks)
     → i < length active → given ≡ at_value active i → IsOne (alone parts store (combination given)) n before after None → Goes parts store active i n before after
 left-good parts store active i given n before after inside same is =
     let z = at_value active i in

@@ -11,7 +11,7 @@ use Rattle.dc_tree.specs.declared.symbols.Symbol.{Symbol}
 use Rattle.dc_tree.specs.Entities.{Entity, outside, nothing, entity, entity_in, outer_names, symbols_in, main_scope}
 use Rattle.dc_tree.specs.Places.{place_at}
 use Rattle.dc_tree.specs.SmallPrograms.{are_small_symbols, are_different, is_small_symbol, is_small_role, are_small_bounds}
-use Rattle.dc_meaning.specs.Standing.{entity_at}
+use Rattle.dc_meaning.specs.WalkScope.{entity_at}
 
 -- ---- small bounds
 

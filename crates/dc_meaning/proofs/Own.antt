@@ -107,19 +107,19 @@ only-quiet P Q (ask variable rest) own = λ bounds. only-quiet P Q (rest bounds)
 only-quiet P Q (pause event rest) own = absurd own
 
 -- and makes no contribution but of its own reductions
-pub only-contributes : {E T A : Type 0} (P : ElementId → Type 0) (Q : A → Type 0) (known : Localities) (store : Store) (c : Computation E T A) → Only P Q c
-    → All (IsCombinable known) (over store c).entries
-only-contributes P Q known store (give a) own = All-nil (IsCombinable known)
-only-contributes P Q known store (fail trouble) own = All-nil (IsCombinable known)
-only-contributes P Q known store (read x line rest) own =
-    All-cons (IsCombinable known) (Reads x line) (over store (rest (value_at store x))).entries tt (only-contributes P Q known store (rest (value_at store x)) (own.1 (value_at store x)))
-only-contributes P Q known store (define x value line rest) own =
-    All-cons (IsCombinable known) (Defines x value line) (over (put_at store x (Some value)) rest).entries tt (only-contributes P Q known (put_at store x (Some value)) rest own.2)
-only-contributes P Q known store (undefine x line rest) own =
-    All-cons (IsCombinable known) (Undefines x line) (over (put_at store x None) rest).entries tt (only-contributes P Q known (put_at store x None) rest own.1)
-only-contributes P Q known store (contribute x op value rest) own = absurd own
-only-contributes P Q known store (ask variable rest) own = only-contributes P Q known store (rest (bounds_of store variable)) (own (bounds_of store variable))
-only-contributes P Q known store (pause event rest) own = absurd own
+pub only-contributes : {E T A : Type 0} (P : ElementId → Type 0) (Q : A → Type 0) (localities : Localities) (store : Store) (c : Computation E T A) → Only P Q c
+    → All (IsCombinable localities) (over store c).entries
+only-contributes P Q localities store (give a) own = All-nil (IsCombinable localities)
+only-contributes P Q localities store (fail trouble) own = All-nil (IsCombinable localities)
+only-contributes P Q localities store (read x line rest) own =
+    All-cons (IsCombinable localities) (Reads x line) (over store (rest (value_at store x))).entries tt (only-contributes P Q localities store (rest (value_at store x)) (own.1 (value_at store x)))
+only-contributes P Q localities store (define x value line rest) own =
+    All-cons (IsCombinable localities) (Defines x value line) (over (put_at store x (Some value)) rest).entries tt (only-contributes P Q localities (put_at store x (Some value)) rest own.2)
+only-contributes P Q localities store (undefine x line rest) own =
+    All-cons (IsCombinable localities) (Undefines x line) (over (put_at store x None) rest).entries tt (only-contributes P Q localities (put_at store x None) rest own.1)
+only-contributes P Q localities store (contribute x op value rest) own = absurd own
+only-contributes P Q localities store (ask variable rest) own = only-contributes P Q localities store (rest (bounds_of store variable)) (own (bounds_of store variable))
+only-contributes P Q localities store (pause event rest) own = absurd own
 
 -- The variables are INTEGER of kind 4.
 abbrev pub AreDefault : List Shape → Type 0

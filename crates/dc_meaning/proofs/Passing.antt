@@ -6,7 +6,7 @@ use Rattle.std.proofs.lemmas.Option.{none-some, same_Some}
 use Rattle.dc_int.specs.Entries.{Reads, Defines, Undefines, Contributes, accesses_of, last_states, contributions_of}
 use Rattle.dc_int.specs.Store.{Store, value_at, bounds_of}
 use Rattle.dc_code.specs.Computation.{give, fail, read, define, undefine, contribute, ask, pause, Reached, done, bad, paused}
-use Rattle.dc_code.specs.Inner.{judging, parts, inner}
+use Rattle.dc_code.specs.Inner.{judging, nested_loop, inner}
 use Rattle.dc_code.specs.Loops.{Orders, Form}
 use Rattle.dc_code.specs.Passages.{Entering, through}
 use Rattle.dc_code.specs.Troubles.{Failure, Trouble, in_statement, Computing, Event, Slots}
@@ -212,7 +212,7 @@ alone-tells program symbols number combination opening turns cells after z resul
     let forms = program_forms symbols source turns in
     let loop = forms number [] in
     let store = store_with symbols opening in
-    told-tells (λ inside left around here orders. inner judging (parts judging forms 63 inside around) left here orders) store (loop.block (map (value_at store) loop.copied) combination) after result out
+    told-tells (λ inside left around here orders. inner judging (nested_loop judging forms 63 inside around) left here orders) store (loop.block (map (value_at store) loop.copied) combination) after result out
     (ends-as (λ i. loop.block (map (value_at store) (no-copies symbols source form number turns i)) (given i))
     (subst (λ v. Ends v (loop.block [] (z ∷ [])) after result) cells-is (ends turns)))
     told

@@ -5,13 +5,13 @@ use Rattle.std.specs.Prelude.{option_map, option_and_then, filter, filter_map, f
 use Rattle.std.proofs.lemmas.Option.{none-some, same_Some}
 use Rattle.dc_int.specs.declared.access.ElementId.{ElementId}
 use Rattle.dc_int.specs.declared.variable.Locality.{Locality}
-use Rattle.dc_int.specs.Entries.{Entry, Reads, Defines, Undefines, Contributes, store_after}
+use Rattle.dc_int.specs.Entries.{Entry, Undefines, store_after}
 use Rattle.dc_int.specs.Store.{Store, elements_of}
 use Rattle.dc_int.proofs.Elements.{elements-after}
 use Rattle.dc_code.specs.declared.verdict.Race.{Race}
 use Rattle.dc_code.specs.Closing.{Localities, is_touched_twice, passed_to, reduced, reductions, closing}
 use Rattle.dc_code.specs.declared.verdict.Verdict as answers
-use Rattle.dc_code.specs.Loops.{Passage, Parts, alone, Ordered, Orders, behind_one, nothing_done, order, closed}
+use Rattle.dc_code.specs.Loops.{Passage, Loop, alone, Ordered, Orders, behind_one, nothing_done, order, closed}
 use Rattle.dc_code.specs.Troubles.{Trouble, ended}
 use Rattle.dc_meaning.specs.declared.judge.Bad as code
 use Rattle.dc_code.specs.Pairs.{first_clash, pair}
@@ -25,16 +25,16 @@ use Rattle.dc_meaning.proofs.Scanning.{marks-name}
 
 -- ---- the race, by the pair that is named
 
-abbrev between_by : (ℕ → Locality) → Parts → Store → List (List ℤ) → ℕ × ℕ → Option Verdict
+abbrev between_by : (ℕ → Locality) → Loop → Store → List (List ℤ) → ℕ × ℕ → Option Verdict
 between_by locality parts store iterations (i, j) =
     option_and_then (λ first. option_and_then (λ second. option_and_then (λ found. Some (race found first second))
     (race_in locality i j (order parts [] store (first ∷ second ∷ [])).runs)) (slice_get iterations j)) (slice_get iterations i)
 
-abbrev among_by : (ℕ → Locality) → Parts → Store → List (List ℤ) → List (List Entry) → Option Verdict
+abbrev among_by : (ℕ → Locality) → Loop → Store → List (List ℤ) → List (List Entry) → Option Verdict
 among_by locality parts store iterations runs =
     option_and_then (λ (x : ElementId). option_and_then (between_by locality parts store iterations) (pair (locality x.variable) x runs)) (first_clash locality store runs)
 
-among-plain : (parts : Parts) → IsPlainly parts → (store : Store) (iterations : List (List ℤ)) (runs : List (List Entry))
+among-plain : (parts : Loop) → IsPlainly parts → (store : Store) (iterations : List (List ℤ)) (runs : List (List Entry))
     → race_among parts store iterations runs ≡ among_by plain parts store iterations runs
 among-plain parts is store iterations runs = ap (λ l. among_by l parts store iterations runs) is.locality
 
@@ -45,13 +45,13 @@ named_of_runs store runs = named_from 0 (marked_runs 0 runs (blank_marks store))
 clash-is : (store : Store) (runs : List (List Entry)) → first_clash plain store runs ≡ option_map (λ n. n.element) (named_of_runs store runs)
 clash-is store runs = (marks-name store runs).element
 
-pub among-none : (parts : Parts) → IsPlainly parts → (store : Store) (iterations : List (List ℤ)) (runs : List (List Entry))
+pub among-none : (parts : Loop) → IsPlainly parts → (store : Store) (iterations : List (List ℤ)) (runs : List (List Entry))
     → named_of_runs store runs ≡ None → race_among parts store iterations runs ≡ None
 among-none parts is store iterations runs none =
     among-plain parts is store iterations runs
     ∙ ap (option_and_then (λ (x : ElementId). option_and_then (between_plain parts store iterations) (pair Locality.Plain x runs))) (clash-is store runs ∙ ap (option_map (λ n. n.element)) none)
 
-pub among-some : (parts : Parts) → IsPlainly parts → (store : Store) (iterations : List (List ℤ)) (runs : List (List Entry)) (named : Named)
+pub among-some : (parts : Loop) → IsPlainly parts → (store : Store) (iterations : List (List ℤ)) (runs : List (List Entry)) (named : Named)
     → named_of_runs store runs ≡ Some named → race_among parts store iterations runs ≡ between_plain parts store iterations named.pair
 among-some parts is store iterations runs named some =
     among-plain parts is store iterations runs
@@ -63,11 +63,11 @@ get-combination [] i = refl
 get-combination (z ∷ active) zero = refl
 get-combination (z ∷ active) (suc i) = get-combination active i
 
-abbrev second_by : Parts → Store → ℕ × ℕ → List ℤ → Option (List ℤ) → Option Verdict
+abbrev second_by : Loop → Store → ℕ × ℕ → List ℤ → Option (List ℤ) → Option Verdict
 second_by parts store (i, j) first second =
     option_and_then (λ s. option_and_then (λ found. Some (race found first s)) (race_in plain i j (order parts [] store (first ∷ s ∷ [])).runs)) second
 
-between-first : (parts : Parts) (store : Store) (active : List ℤ) (p : ℕ × ℕ) (first : Option ℤ) → slice_get active p.0 ≡ first
+between-first : (parts : Loop) (store : Store) (active : List ℤ) (p : ℕ × ℕ) (first : Option ℤ) → slice_get active p.0 ≡ first
     → between_plain parts store (map combination active) p ≡ option_and_then (λ f. second_by parts store p (combination f) (slice_get (map combination active) p.1)) first
 between-first parts store active (i, j) first is =
     ap (option_and_then (λ f. second_by parts store (i, j) f (slice_get (map combination active) j))) (get-combination active i ∙ ap (option_map combination) is) ∙ mapped first
@@ -77,15 +77,15 @@ between-first parts store active (i, j) first is =
     mapped None = refl
     mapped (Some z) = refl
 
-pub no-first : (parts : Parts) (store : Store) (active : List ℤ) (p : ℕ × ℕ) → slice_get active p.0 ≡ None → between_plain parts store (map combination active) p ≡ None
+pub no-first : (parts : Loop) (store : Store) (active : List ℤ) (p : ℕ × ℕ) → slice_get active p.0 ≡ None → between_plain parts store (map combination active) p ≡ None
 no-first parts store active p none = between-first parts store active p None none
 
-pub no-second : (parts : Parts) (store : Store) (active : List ℤ) (p : ℕ × ℕ) (f : ℤ) → slice_get active p.0 ≡ Some f → slice_get active p.1 ≡ None
+pub no-second : (parts : Loop) (store : Store) (active : List ℤ) (p : ℕ × ℕ) (f : ℤ) → slice_get active p.0 ≡ Some f → slice_get active p.1 ≡ None
     → between_plain parts store (map combination active) p ≡ None
 no-second parts store active (i, j) f first none =
     between-first parts store active (i, j) (Some f) first ∙ ap (second_by parts store (i, j) (combination f)) (get-combination active j ∙ ap (option_map combination) none)
 
-pub both-there : (parts : Parts) (store : Store) (active : List ℤ) (p : ℕ × ℕ) (f s : ℤ) → slice_get active p.0 ≡ Some f → slice_get active p.1 ≡ Some s
+pub both-there : (parts : Loop) (store : Store) (active : List ℤ) (p : ℕ × ℕ) (f s : ℤ) → slice_get active p.0 ≡ Some f → slice_get active p.1 ≡ Some s
     → between_plain parts store (map combination active) p
     ≡ option_and_then (λ found. Some (race found (combination f) (combination s))) (race_in plain p.0 p.1 (order parts [] store (combination f ∷ combination s ∷ [])).runs)
 both-there parts store active (i, j) f s first second =
@@ -93,21 +93,21 @@ both-there parts store active (i, j) f s first second =
 
 -- ---- the closing store
 
-none-passed : (known : Localities) (runs : List (List Entry)) (elements : List ElementId)
-    → flat_map (passed_to (record { locality = known.locality; kind = known.kind; passed = λ variable. false }) runs) elements ≡ []
-none-passed known runs [] = refl
-none-passed known runs (x ∷ elements) = none-passed known runs elements
+none-passed : (localities : Localities) (runs : List (List Entry)) (elements : List ElementId)
+    → flat_map (passed_to (record { locality = localities.locality; kind = localities.kind; passed = λ variable. false }) runs) elements ≡ []
+none-passed localities runs [] = refl
+none-passed localities runs (x ∷ elements) = none-passed localities runs elements
 
-abbrev plain_known : Localities → Localities
-plain_known known = record { locality = plain; kind = known.kind; passed = λ variable. false }
+abbrev plain_localities : Localities → Localities
+plain_localities localities = record { locality = plain; kind = localities.kind; passed = λ variable. false }
 
-nothing-reduced : (known : Localities) (line : ℕ) (runs : List (List Entry)) (store : Store) (elements : List ElementId) → filter_map (reduced (plain_known known) line runs store) elements ≡ []
-nothing-reduced known line runs store [] = refl
-nothing-reduced known line runs store (x ∷ elements) = nothing-reduced known line runs store elements
+nothing-reduced : (localities : Localities) (line : ℕ) (runs : List (List Entry)) (store : Store) (elements : List ElementId) → filter_map (reduced (plain_localities localities) line runs store) elements ≡ []
+nothing-reduced localities line runs store [] = refl
+nothing-reduced localities line runs store (x ∷ elements) = nothing-reduced localities line runs store elements
 
-no-reductions : (known : Localities) (line : ℕ) (runs : List (List Entry)) (store : Store) → reductions (plain_known known) line runs store ≡ []
-no-reductions known line [] store = refl
-no-reductions known line (run ∷ runs) store = nothing-reduced known line (run ∷ runs) store (elements_of store)
+no-reductions : (localities : Localities) (line : ℕ) (runs : List (List Entry)) (store : Store) → reductions (plain_localities localities) line runs store ≡ []
+no-reductions localities line [] store = refl
+no-reductions localities line (run ∷ runs) store = nothing-reduced localities line (run ∷ runs) store (elements_of store)
 
 append-none : {A : Type 0} (xs : List A) → xs ++ [] ≡ xs
 append-none [] = refl
@@ -116,16 +116,16 @@ append-none (x ∷ xs) = ap (λ ys. x ∷ ys) (append-none xs)
 abbrev undefined_twice : ℕ → List (List Entry) → List ElementId → List Entry
 undefined_twice line runs elements = map (λ x. Undefines x line) (filter (λ x. is_touched_twice x runs) elements)
 
-plain-closing : (known : Localities) (line : ℕ) (runs : List (List Entry)) (store : Store)
-    → closing (plain_known known) line runs store ≡ store_after (undefined_twice line runs (elements_of store)) store
-plain-closing known line runs store =
-    (λ i. store_after (undefined_twice line runs (elements_of store) ++ (none-passed (plain_known known) runs (elements_of store) i ++ no-reductions known line runs store i)) store)
+plain-closing : (localities : Localities) (line : ℕ) (runs : List (List Entry)) (store : Store)
+    → closing (plain_localities localities) line runs store ≡ store_after (undefined_twice line runs (elements_of store)) store
+plain-closing localities line runs store =
+    (λ i. store_after (undefined_twice line runs (elements_of store) ++ (none-passed (plain_localities localities) runs (elements_of store) i ++ no-reductions localities line runs store i)) store)
     ∙ ap (λ es. store_after es store) (append-none (undefined_twice line runs (elements_of store)))
 
-known-plain : (parts : Parts) → IsPlainly parts → parts.form.known ≡ plain_known parts.form.known
-known-plain parts is = λ i. record { locality = is.locality i; kind = parts.form.known.kind; passed = is.passed i }
+known-plain : (parts : Loop) → IsPlainly parts → parts.form.localities ≡ plain_localities parts.form.localities
+known-plain parts is = λ i. record { locality = is.locality i; kind = parts.form.localities.kind; passed = is.passed i }
 
-behind-elements : (parts : Parts) (passage : Passage) (rest : Orders → Store → Ordered) (elements : List ElementId)
+behind-elements : (parts : Loop) (passage : Passage) (rest : Orders → Store → Ordered) (elements : List ElementId)
     → elements_of passage.store ≡ elements → elements_of (rest passage.orders passage.store).store ≡ elements → elements_of (behind_one passage rest).store ≡ elements
 behind-elements parts passage rest elements first later = by passage.trouble
   where
@@ -135,7 +135,7 @@ behind-elements parts passage rest elements first later = by passage.trouble
     by (Some met) = first
 
 -- An order leaves the elements as they were.
-order-elements : (parts : Parts) → IsPlainly parts → (active : List ℤ) (orders : Orders) (store : Store) → orders ≡ [] → elements_of (order parts orders store (map combination active)).store ≡ elements_of store
+order-elements : (parts : Loop) → IsPlainly parts → (active : List ℤ) (orders : Orders) (store : Store) → orders ≡ [] → elements_of (order parts orders store (map combination active)).store ≡ elements_of store
 order-elements parts is [] orders store none = refl
 order-elements parts is (z ∷ active) orders store none =
     let passage = parts.block store orders (combination z) in
@@ -145,18 +145,18 @@ order-elements parts is (z ∷ active) orders store none =
     behind-elements parts passage (λ o after. order parts o after (map combination active)) (elements_of store) same (order-elements parts is active passage.orders passage.store left ∙ same)
 
 -- Where all variables have unspecified locality, a loop closes by forgetting what two iterations touched.
-pub closes : (parts : Parts) → IsPlainly parts → (active : List ℤ) (store : Store)
+pub closes : (parts : Loop) → IsPlainly parts → (active : List ℤ) (store : Store)
     → closed parts (order parts [] store (map combination active))
     ≡ forget_from 0 (marked_runs 0 (order parts [] store (map combination active)).runs (blank_marks store)) (order parts [] store (map combination active)).store
 closes parts is active store =
     let ordered = order parts [] store (map combination active) in
     let line = parts.form.line in
-    ap (λ known. closing known line ordered.runs ordered.store) (known-plain parts is) ∙ plain-closing parts.form.known line ordered.runs ordered.store
+    ap (λ localities. closing localities line ordered.runs ordered.store) (known-plain parts is) ∙ plain-closing parts.form.localities line ordered.runs ordered.store
     ∙ ap (λ elements. store_after (undefined_twice line ordered.runs elements) ordered.store) (order-elements parts is active [] store refl)
     ∙ sym (forgotten-is line store ordered.store ordered.runs)
 
 -- The same, of an order that was run over a copy of the store.
-pub closed_by : (parts : Parts) → IsPlainly parts → (active : List ℤ) (store copy left final : Store) (before after : Marks)
+pub closed_by : (parts : Loop) → IsPlainly parts → (active : List ℤ) (store copy left final : Store) (before after : Marks)
     → copy ≡ store → before ≡ blank_marks store → IsOrdered (order parts [] copy (map combination active)) before left after → final ≡ forget_from 0 after left
     → final ≡ closed parts (order parts [] store (map combination active))
 closed_by parts is active store copy left final before after copy_is before_is ordered final_is =
@@ -167,19 +167,19 @@ closed_by parts is active store copy left final before after copy_is before_is o
 
 -- ---- the verdict
 
-abbrev passages_by : Parts → Store → List (List ℤ) → List Passage
+abbrev passages_by : Loop → Store → List (List ℤ) → List Passage
 passages_by parts store iterations = map (alone parts store) iterations
 
-passages-are : (parts : Parts) (store : Store) (active : List ℤ) → passages_by parts store (map combination active) ≡ alone_passages parts store active
+passages-are : (parts : Loop) (store : Store) (active : List ℤ) → passages_by parts store (map combination active) ≡ alone_passages parts store active
 passages-are parts store [] = refl
 passages-are parts store (z ∷ active) = ap (λ ps. alone parts store (combination z) ∷ ps) (passages-are parts store active)
 
-pub verdict-is : (parts : Parts) (store : Store) (active : List ℤ)
+pub verdict-is : (parts : Loop) (store : Store) (active : List ℤ)
     → verdict parts store (map combination active) ≡ first_of (bad_of parts store active) (race_among parts store (map combination active) (runs_of parts store active))
 verdict-is parts store active = ap (judged parts store (map combination active)) (passages-are parts store active)
 
 -- what a pair tells is a race, behind which the store is as before
-pair-stays : (parts : Parts) (store : Store) (active : List ℤ) (p : ℕ × ℕ) (w : Verdict) → between_plain parts store (map combination active) p ≡ Some w → store_behind parts store active w ≡ store
+pair-stays : (parts : Loop) (store : Store) (active : List ℤ) (p : ℕ × ℕ) (w : Verdict) → between_plain parts store (map combination active) p ≡ Some w → store_behind parts store active w ≡ store
 pair-stays parts store active (i, j) w is = by_first (slice_get (map combination active) i) is
   where
     iterations : List (List ℤ)
@@ -201,7 +201,7 @@ pair-stays parts store active (i, j) w is = by_first (slice_get (map combination
     by_first None told = absurd (none-some w told)
     by_first (Some f) told = by_second f (slice_get iterations j) told
 
-pub race-stays : (parts : Parts) → IsPlainly parts → (store : Store) (active : List ℤ) (runs : List (List Entry)) (w : Verdict)
+pub race-stays : (parts : Loop) → IsPlainly parts → (store : Store) (active : List ℤ) (runs : List (List Entry)) (w : Verdict)
     → race_among parts store (map combination active) runs ≡ Some w → store_behind parts store active w ≡ store
 race-stays parts is store active runs w told = by_named (named_of_runs store runs) refl
   where
@@ -210,14 +210,14 @@ race-stays parts is store active runs w told = by_named (named_of_runs store run
     by_named (Some n) some = pair-stays parts store active n.pair w (sym (among-some parts is store (map combination active) runs n some) ∙ told)
 
 -- A race is what is said of the loop, where each iteration ends well.
-pub judged-race : (parts : Parts) → IsPlainly parts → (store : Store) (active : List ℤ) (said : answers.Verdict) → bad_of parts store active ≡ None
+pub judged-race : (parts : Loop) → IsPlainly parts → (store : Store) (active : List ℤ) (said : answers.Verdict) → bad_of parts store active ≡ None
     → Some (seen said) ≡ race_among parts store (map combination active) (runs_of parts store active) → IsJudged parts store active store said
 judged-race parts is store active said well told = record {
   verdict_is = verdict-is parts store active ∙ (λ i. first_of (well i) (sym told i));
   store_is = sym (race-stays parts is store active (runs_of parts store active) (seen said) (sym told));
 }
 
-pub judged-well : (parts : Parts) (store after : Store) (active : List ℤ) → bad_of parts store active ≡ None
+pub judged-well : (parts : Loop) (store after : Store) (active : List ℤ) → bad_of parts store active ≡ None
     → None ≡ race_among parts store (map combination active) (runs_of parts store active) → after ≡ closed parts (order parts [] store (map combination active))
     → IsJudged parts store active after answers.Verdict.GoOn
 judged-well parts store after active well told closing_is = record {
@@ -225,7 +225,7 @@ judged-well parts store after active well told closing_is = record {
   store_is = closing_is;
 }
 
-pub judged-bad : (parts : Parts) (store : Store) (active : List ℤ) (said : answers.Verdict) (met : Trouble) (at : ℤ)
+pub judged-bad : (parts : Loop) (store : Store) (active : List ℤ) (said : answers.Verdict) (met : Trouble) (at : ℤ)
     → bad_of parts store active ≡ Some (in_iteration met (combination at)) → seen said ≡ in_iteration met (combination at) → IsJudged parts store active store said
 judged-bad parts store active said met at bad told = record {
   verdict_is = verdict-is parts store active ∙ ap (λ b. first_of b (race_among parts store (map combination active) (runs_of parts store active))) bad ∙ sym told;
@@ -233,7 +233,7 @@ judged-bad parts store active said met at bad told = record {
 }
 
 -- The first iteration that doesn't end well is what is said of the loop.
-pub judged-met : (parts : Parts) (store : Store) (active : List ℤ) (said : answers.Verdict) (before after : Marks) (bad : code.Bad) → IsMarked parts store active before after (Some bad)
+pub judged-met : (parts : Loop) (store : Store) (active : List ℤ) (said : answers.Verdict) (before after : Marks) (bad : code.Bad) → IsMarked parts store active before after (Some bad)
     → ((z : ℤ) → slice_get active bad.iteration ≡ Some z → seen said ≡ in_iteration (ended bad.why bad.line []) (combination z)) → IsJudged parts store active store said
 judged-met parts store active said before after bad (at, bad_is, k, at_k, counted) told =
     judged-bad parts store active said (ended bad.why bad.line []) at bad_is (told at (ap (slice_get active) (counted ∙ none-before) ∙ at_k))

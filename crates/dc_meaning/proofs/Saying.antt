@@ -2,7 +2,7 @@
 use Rattle.std.proofs.Common.{◌≡◌, ℕ, ◌+◌, List, [], map, Option, Some, None, sym, ap, ◌∙◌, arith}
 use Rattle.std.specs.Prelude.{slice_get, ℤ}
 use Rattle.dc_int.specs.Store.{Store}
-use Rattle.dc_code.specs.Loops.{Parts, order, closed}
+use Rattle.dc_code.specs.Loops.{Loop, order, closed}
 use Rattle.dc_code.specs.Verdicts.{race_among, first_of}
 use Rattle.dc_meaning.specs.declared.judge.Bad.{Bad}
 use Rattle.dc_meaning.specs.declared.judge.Told.{Told}
@@ -13,7 +13,7 @@ use Rattle.dc_meaning.specs.PlainVerdicts.{IsSaid}
 use Rattle.dc_meaning.specs.Views.{states_in}
 use Rattle.dc_meaning.proofs.Racing.{verdict-is}
 
-pub said-bad : (parts : Parts) (store : Store) (active : List ℤ) (before after : Marks) (bad : Bad) → IsMarked parts store active before after (Some bad)
+pub said-bad : (parts : Loop) (store : Store) (active : List ℤ) (before after : Marks) (bad : Bad) → IsMarked parts store active before after (Some bad)
     → IsSaid parts store active (PlainVerdict.Bad bad.iteration bad.why bad.line)
 said-bad parts store active before after bad (at, bad_is, k, at_k, counted) = (
   at,
@@ -24,11 +24,11 @@ said-bad parts store active before after bad (at, bad_is, k, at_k, counted) = (
     from_none : (k : ℕ) → 0 + k ≡ k
     from_none k = omega arith
 
-pub said-race : (parts : Parts) (store : Store) (active : List ℤ) (told : Told) → bad_of parts store active ≡ None
+pub said-race : (parts : Loop) (store : Store) (active : List ℤ) (told : Told) → bad_of parts store active ≡ None
     → Some (told_of told) ≡ race_among parts store (map combination active) (runs_of parts store active) → IsSaid parts store active (PlainVerdict.Race told.race)
 said-race parts store active told well is = (told.first, told.second, verdict-is parts store active ∙ (λ i. first_of (well i) (sym is i)))
 
-pub said-well : (parts : Parts) (store after : Store) (active : List ℤ) (closing : List (Option ℤ)) → bad_of parts store active ≡ None
+pub said-well : (parts : Loop) (store after : Store) (active : List ℤ) (closing : List (Option ℤ)) → bad_of parts store active ≡ None
     → None ≡ race_among parts store (map combination active) (runs_of parts store active) → after ≡ closed parts (order parts [] store (map combination active))
     → closing ≡ states_in after → IsSaid parts store active (PlainVerdict.GoOn closing)
 said-well parts store after active closing well none closed_is states = (verdict-is parts store active ∙ (λ i. first_of (well i) (sym none i)), states ∙ ap states_in closed_is)

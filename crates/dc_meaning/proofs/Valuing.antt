@@ -23,7 +23,7 @@ use Rattle.dc_meaning.specs.declared.stop.Stop.{Stop}
 use Rattle.dc_meaning.specs.Acts.{Act, just, ◌>>=◌, refer_to}
 use Rattle.dc_meaning.specs.Places.{value_at_entity, element_at}
 use Rattle.dc_meaning.specs.Values.{Callee, settled, refer_value, referred, value, values}
-use Rattle.dc_meaning.specs.Standing.{first_tree, entity_of, place_of_spot}
+use Rattle.dc_meaning.specs.WalkScope.{first_tree, entity_of, place_of_spot}
 use Rattle.dc_meaning.specs.Walking.{View, Walks}
 use Rattle.dc_meaning.proofs.Walking.{walks-then, walks-bad, walks-as}
 

@@ -5,10 +5,10 @@ use Rattle.dc_int.specs.declared.variable.Locality.{Locality}
 use Rattle.dc_int.specs.Entries.{store_after}
 use Rattle.dc_int.specs.Store.{Store, value_at}
 use Rattle.dc_int.specs.Sorts.{Sort}
-use Rattle.dc_code.specs.Computation.{over, ended, done}
-use Rattle.dc_code.specs.Inner.{judging, parts, inner}
+use Rattle.dc_code.specs.Computation.{over, without_entries, done}
+use Rattle.dc_code.specs.Inner.{judging, nested_loop, inner}
 use Rattle.dc_code.specs.Laws.{NeverPauses}
-use Rattle.dc_code.specs.Loops.{Form, Passage, opened}
+use Rattle.dc_code.specs.Loops.{Form, Passage, header_of}
 use Rattle.dc_code.specs.Passages.{Entering, through}
 use Rattle.dc_code.specs.Troubles.{Failure, Computing}
 use Rattle.dc_code.proofs.Passages.{through-over}
@@ -122,7 +122,7 @@ module _ (symbols : List Symbol) (source : Source) (turns number : ℕ) (head : 
       (block-own AnyElement scope-here (λ text. any-own (entity scope-here text)) within.call (suc at.counted) block scope-small)))
 
   abbrev pub entering : Entering
-  entering inside left around here orders = inner judging (parts judging (program_forms symbols source turns) 63 inside around) left here orders
+  entering inside left around here orders = inner judging (nested_loop judging (program_forms symbols source turns) 63 inside around) left here orders
 
   pub passage-is : (store : Store) (z : ℤ) → (loop_parts symbols source turns number).block store [] (z ∷ []) ≡ through entering store [] (block_alone symbols source number (z ∷ []) turns)
   passage-is store z = λ i. through entering store [] ((program_forms symbols source turns number []).block (map (value_at store) (no-copies symbols source form number turns i)) (z ∷ []))
@@ -136,18 +136,18 @@ module _ (symbols : List Symbol) (source : Source) (turns number : ℕ) (head : 
 
   plainly-by : IsPlainly (loop_parts symbols source turns number)
   plainly-by = record {
-    locality = ap (λ (f : Form). f.known.locality) form-here ∙ (λ i place. all-plain within symbols found refl refl place (slice_get within.outsides place) refl i);
-    passed = ap (λ (f : Form). f.known.passed) form-here ∙ (λ i place. none-passed within symbols found refl refl place (slice_get within.outsides place) refl i);
+    locality = ap (λ (f : Form). f.localities.locality) form-here ∙ (λ i place. all-plain within symbols found refl refl place (slice_get within.outsides place) refl i);
+    passed = ap (λ (f : Form). f.localities.passed) form-here ∙ (λ i place. none-passed within symbols found refl refl place (slice_get within.outsides place) refl i);
     orders = λ store z. ap (λ (p : Passage). p.orders) (passage-is store z ∙ through-over entering store [] (block_alone symbols source number (z ∷ []) turns) (block-plain z));
     replays = λ store z.
         let run = passage-is store z ∙ through-over entering store [] (block_alone symbols source number (z ∷ []) turns) (block-plain z) in
         ap (λ (p : Passage). p.store) run ∙ replayed store (block_alone symbols source number (z ∷ []) turns) ∙ ap (λ (p : Passage). store_after p.entries store) (sym run);
   }
 
-  opens-by : (store : Store) (left : ℕ) → over store (opened (loop_parts symbols source turns number).form left)
-      ≡ ended store (done (record { iterations = map combination (index_values head.says); turns = left }))
+  opens-by : (store : Store) (left : ℕ) → over store (header_of (loop_parts symbols source turns number).form left)
+      ≡ without_entries store (done (record { iterations = map combination (index_values head.says); turns = left }))
   opens-by store left =
-      ap (λ (f : Form). over store (opened f left)) form-here ∙ ap (over store) (opened-is within symbols at.counted head block at.small at.whole left)
+      ap (λ (f : Form). over store (header_of f left)) form-here ∙ ap (over store) (opened-is within symbols at.counted head block at.small at.whole left)
 
 -- A loop of the program at its number.
 pub visitable : (symbols : List Symbol) (source : Source) (turns number : ℕ) (head : Line) (block : Items) → is_small_program symbols source ≡ true → nth_loop number source.body ≡ Some (head, block)

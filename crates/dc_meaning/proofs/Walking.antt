@@ -4,7 +4,7 @@ use Rattle.std.specs.Prelude.{Result, Ok, Err}
 use Rattle.std.specs.Result.{IsErrAnd}
 use Rattle.dc_int.specs.Entries.{Entry, Reads, Defines, Undefines, Contributes}
 use Rattle.dc_int.specs.Store.{value_at, bounds_of}
-use Rattle.dc_code.specs.Computation.{Computation, give, fail, read, define, undefine, contribute, ask, pause, sequence, Reached, done, bad, paused, Run, over, behind}
+use Rattle.dc_code.specs.Computation.{Computation, give, fail, read, define, undefine, contribute, ask, pause, sequence, Reached, done, bad, paused, Run, over, behind_entries}
 use Rattle.dc_code.specs.Troubles.{Computing, Slots}
 use Rattle.dc_meaning.specs.declared.stop.Stop.{Stop}
 use Rattle.dc_meaning.specs.Acts.{State, Act, ◌>>=◌}
@@ -29,7 +29,7 @@ seen-then view (ask variable rest) next = seen-then view (rest (bounds_of view.s
 seen-then view (pause event rest) next = refl
 
 -- what is seen is the run over the store
-behind-noted : {E T A : Type 0} (view : View) (entry : Entry) (run : Run E T A) → behind_view (noted entry view) run ≡ behind_view view (behind (entry ∷ []) run)
+behind-noted : {E T A : Type 0} (view : View) (entry : Entry) (run : Run E T A) → behind_view (noted entry view) run ≡ behind_view view (behind_entries (entry ∷ []) run)
 behind-noted view entry run = λ i. (record { store = run.store; entries = append_assoc view.entries (entry ∷ []) run.entries i }, run.reached)
 
 pub seen-run : {E T A : Type 0} (view : View) (c : Computation E T A) → seen_over view c ≡ behind_view view (over view.store c)

@@ -47,17 +47,17 @@ places_of scope call line variable (Some trees) = do
   place ← element_at line variable subscripts
   just (place ∷ [])
 
-abbrev pub is_named : Name → Tree → Bool
-is_named text (name other) = bytes_eq other text
-is_named text (refer other args) = bytes_eq other text
-is_named text tree = false
+abbrev pub refers_to : Name → Tree → Bool
+refers_to text (name other) = bytes_eq other text
+refers_to text (refer other args) = bytes_eq other text
+refers_to text tree = false
 
 -- The operands of an update of a variable: all of `v op e1 op e2 ..`, or the one beside it in `e op v`,
 -- `f(v, e)` and `f(e, v)`. After clause 11.1.7.5.
 abbrev pub operands : Name → Tree → List Tree
-operands text (binary mark left right) = if is_named text right then left ∷ [] else operands text left ++ right ∷ []
+operands text (binary mark left right) = if refers_to text right then left ∷ [] else operands text left ++ right ∷ []
 operands text (refer other (arg keyed first (arg keyed_second second no_args))) =
-    if bytes_eq other text then [] else (if is_named text first then second ∷ [] else first ∷ [])
+    if bytes_eq other text then [] else (if refers_to text first then second ∷ [] else first ∷ [])
 operands text tree = []
 
 abbrev pub contribution : ElementId → ReduceOp → ℤ → Act Unit

@@ -3,7 +3,7 @@ use Rattle.std.specs.Prelude.{◌≡◌, ℕ, zero, suc, List, [], ◌∷◌, le
 use Rattle.dc_int.specs.declared.fault.Why.{Why}
 use Rattle.dc_int.specs.Entries.{accesses_of, last_states, contributions_of}
 use Rattle.dc_code.specs.Computation.{done, bad}
-use Rattle.dc_code.specs.Inner.{judging, parts, greatest_depth}
+use Rattle.dc_code.specs.Inner.{judging, nested_loop, greatest_depth}
 use Rattle.dc_code.specs.Loops.{Passage, alone}
 use Rattle.dc_code.specs.Troubles.{Trouble, ended, Computing}
 use Rattle.dc_tree.specs.declared.program.Program.{Program}
@@ -26,7 +26,7 @@ pub record IsAsked (program : Program) (symbols : List Symbol) (combination : Li
 -- The iteration of a loop with these index values, over the store of these states.
 abbrev pub iteration_alone : Program → List Symbol → ℕ → List ℤ → List (Option ℤ) → ℕ → Passage
 iteration_alone program symbols construct combination opening turns =
-    alone (parts judging (program_forms symbols (source_of program) turns) greatest_depth construct []) (store_with symbols opening) combination
+    alone (nested_loop judging (program_forms symbols (source_of program) turns) greatest_depth construct []) (store_with symbols opening) combination
 
 -- How it ended: well, or badly by a statement of its block.
 abbrev pub trouble_of : Option (Why × ℕ) → Option Trouble

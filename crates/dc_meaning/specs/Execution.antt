@@ -5,7 +5,7 @@ use Rattle.std.specs.List.{list_any}
 use Rattle.dc_int.specs.declared.fault.FaultKind.{FaultKind}
 use Rattle.dc_int.specs.Reductions.{truth}
 use Rattle.dc_int.specs.Sorts.{Sort, fitted}
-use Rattle.dc_code.specs.Combinations.{Span, value_count}
+use Rattle.dc_code.specs.Combinations.{Span, natural, value_count}
 use Rattle.dc_code.specs.Computation.{give, pause}
 use Rattle.dc_code.specs.Troubles.{enter_loop}
 use Rattle.dc_tree.specs.Blocks.{Line, Item, Items, Arms, plain, branch, select, loop, none, and_then, no_arms, arm}
@@ -81,10 +81,6 @@ abbrev pub while_do : ℕ → Option Name → Act ℤ → Act Flow → Act Flow
 while_do line label test body state = while_rounds (suc state.turns) line label test body state
 
 -- ---- a DO CONCURRENT
-
-abbrev pub natural : ℤ → ℕ
-natural (pos n) = n
-natural (negsuc n) = 0
 
 -- The loop of this number is run elsewhere, and tells the turns that are left.
 abbrev pub concurrent_do : ℕ → Act Flow

@@ -54,7 +54,7 @@ localities_of within loop = record {
 abbrev pub form_of : Surroundings → Concurrent → Slots → Form
 form_of within loop around = record {
   line = loop.line;
-  known = localities_of within loop;
+  localities = localities_of within loop;
   copied = flat_map (copied_by loop) (locals_of within loop);
   combines = flat_map (combined_by loop) within.outsides;
   header = λ turns. inside_frame around turns (header_act within loop) (λ spans left. (spans, left));

@@ -5,7 +5,7 @@ use Rattle.dc_int.specs.declared.fault.Why.{Why}
 use Rattle.dc_int.specs.Entries.{Entry, store_after}
 use Rattle.dc_int.specs.Store.{Store}
 use Rattle.dc_code.specs.declared.verdict.Verdict as answers
-use Rattle.dc_code.specs.Loops.{Passage, Parts, alone, Ordered, order, closed}
+use Rattle.dc_code.specs.Loops.{Passage, Loop, alone, Ordered, order, closed}
 use Rattle.dc_code.specs.Troubles.{ended}
 use Rattle.dc_code.specs.Verdicts.{Verdict, go_on, in_iteration, race, bad_iteration, verdict, seen}
 use Rattle.dc_tree.specs.Blocks.{Items, items}
@@ -41,21 +41,21 @@ abbrev pub fresh : Store → View
 fresh store = record { store = store; entries = [] }
 
 -- What the walker does for a block in a scope is an iteration of the loop.
-pub record IsRunBy (parts : Parts) (scope : Scope) (block : Items) : Type 0 where
+pub record IsRunBy (parts : Loop) (scope : Scope) (block : Items) : Type 0 where
   pub runs
       : (z : ℤ) (store : Store) (after : View) (result : Result (Unit {0}) Stop)
       → ((number : ℕ) → Walks (λ done. actions.on) ((Some z ∷ []) ∷ []) (fresh store) (λ call. exec_all scope call number block) after result)
       → IsDoneBy (parts.block store [] (z ∷ [])) after result
 
 -- All variables of the loop have unspecified locality, and its iterations are told by their entries.
-pub record IsPlainly (parts : Parts) : Type 0 where
-  pub locality : parts.form.known.locality ≡ plain
-  pub passed : parts.form.known.passed ≡ (λ variable. false)
+pub record IsPlainly (parts : Loop) : Type 0 where
+  pub locality : parts.form.localities.locality ≡ plain
+  pub passed : parts.form.localities.passed ≡ (λ variable. false)
   pub orders : (store : Store) (z : ℤ) → (parts.block store [] (z ∷ [])).orders ≡ []
   pub replays : (store : Store) (z : ℤ) → (parts.block store [] (z ∷ [])).store ≡ store_after (parts.block store [] (z ∷ [])).entries store
 
 -- A loop that the judge can run.
-pub record IsTask (parts : Parts) (task : Task) : Type 0 where
+pub record IsTask (parts : Loop) (task : Task) : Type 0 where
   pub symbols : IsTrue (are_small_symbols task.symbols.now)
   pub small : IsTrue (is_small_loop (main_scope task.symbols.now) (statement task.head.now) (items task.body.now))
   pub run : IsRunBy parts (with_index (main_scope task.symbols.now) (index_name (statement task.head.now))) (items task.body.now)
@@ -75,13 +75,13 @@ combination z = z ∷ []
 abbrev pub told_of : Told → Verdict
 told_of told = race told.race (combination told.first) (combination told.second)
 
-abbrev pub alone_passages : Parts → Store → List ℤ → List Passage
+abbrev pub alone_passages : Loop → Store → List ℤ → List Passage
 alone_passages parts store active = map (λ z. alone parts store (combination z)) active
 
 abbrev pub entries_in : Passage → List Entry
 entries_in passage = passage.entries
 
-abbrev pub bad_of : Parts → Store → List ℤ → Option Verdict
+abbrev pub bad_of : Loop → Store → List ℤ → Option Verdict
 bad_of parts store active = bad_iteration (map combination active) (alone_passages parts store active)
 
 -- An iteration that doesn't end well, among those with these index values.
@@ -90,17 +90,17 @@ pub record IsBad (active : List ℤ) (said : Option Verdict) (bad : code.Bad) : 
   pub place : slice_get active bad.iteration ≡ Some at
   pub is : said ≡ Some (in_iteration (ended bad.why bad.line []) (combination at))
 
-abbrev pub runs_of : Parts → Store → List ℤ → List (List Entry)
+abbrev pub runs_of : Loop → Store → List ℤ → List (List Entry)
 runs_of parts store active = map entries_in (alone_passages parts store active)
 
 -- What is left of the marks after iterations that are counted from a number on: the marks of all, where all
 -- ended well, or the first that didn't.
-abbrev pub IsMarkedFrom : Parts → Store → ℕ → List ℤ → Marks → Marks → Option code.Bad → Type 0
+abbrev pub IsMarkedFrom : Loop → Store → ℕ → List ℤ → Marks → Marks → Option code.Bad → Type 0
 IsMarkedFrom parts store n active before after None = (bad_of parts store active ≡ None) × (after ≡ marked_runs n (runs_of parts store active) before)
 IsMarkedFrom parts store n active before after (Some bad) =
     (at : ℤ) × (bad_of parts store active ≡ Some (in_iteration (ended bad.why bad.line []) (combination at))) × (k : ℕ) × (slice_get active k ≡ Some at) × (bad.iteration ≡ n + k)
 
-abbrev pub IsMarked : Parts → Store → List ℤ → Marks → Marks → Option code.Bad → Type 0
+abbrev pub IsMarked : Loop → Store → List ℤ → Marks → Marks → Option code.Bad → Type 0
 IsMarked parts store active before after bad = IsMarkedFrom parts store 0 active before after bad
 
 -- What an order leaves: its store, and the marks with what its iterations did.
@@ -111,11 +111,11 @@ pub record IsOrdered (ordered : Ordered) (before : Marks) (store : Store) (after
 -- ---- the verdict
 
 -- The store behind a loop: the closing store where it goes on, and else the store before it.
-abbrev pub store_behind : Parts → Store → List ℤ → Verdict → Store
+abbrev pub store_behind : Loop → Store → List ℤ → Verdict → Store
 store_behind parts store active go_on = closed parts (order parts [] store (map combination active))
 store_behind parts store active other = store
 
 -- The verdict on the iterations with these index values, and the store behind the loop.
-pub record IsJudged (parts : Parts) (store : Store) (active : List ℤ) (after : Store) (said : answers.Verdict) : Type 0 where
+pub record IsJudged (parts : Loop) (store : Store) (active : List ℤ) (after : Store) (said : answers.Verdict) : Type 0 where
   pub verdict_is : verdict parts store (map combination active) ≡ seen said
   pub store_is : after ≡ store_behind parts store active (seen said)

@@ -16,7 +16,7 @@ pub mod PlainVerdicts
 pub mod Plainly
 pub mod Programs
 pub mod Showing
-pub mod Standing
+pub mod WalkScope
 pub mod Storing
 pub mod TakingBack
 pub mod Telling

@@ -48,7 +48,7 @@ abbrev mutual
 abbrev pub no_loop : Form
 no_loop = record {
   line = 0;
-  known = record { locality = λ number. Locality.Plain; kind = λ number. Kind.K4; passed = λ number. false };
+  localities = record { locality = λ number. Locality.Plain; kind = λ number. Kind.K4; passed = λ number. false };
   copied = [];
   combines = [];
   header = λ turns. give ([], turns);

@@ -1,7 +1,7 @@
 -- What the plain judge says of a loop by itself. This project's own.
 use Rattle.std.specs.Prelude.{◌≡◌, ◌≤◌, ℕ, List, [], length, map, slice_get, is_some, Some, ℤ, IsTrue}
 use Rattle.dc_int.specs.Store.{Store}
-use Rattle.dc_code.specs.Loops.{Parts, order, closed}
+use Rattle.dc_code.specs.Loops.{Loop, order, closed}
 use Rattle.dc_code.specs.Troubles.{ended}
 use Rattle.dc_code.specs.Verdicts.{go_on, in_iteration, race, verdict}
 use Rattle.dc_tree.specs.declared.program.Program.{Program}
@@ -22,7 +22,7 @@ pub record IsJudgeable (program : Program) (symbols : List Symbol) (construct wi
 
 -- What is said of the iterations with these index values, over a store, is the verdict; and the states of
 -- a loop that goes on are those with which it ends.
-abbrev pub IsSaid : Parts → Store → List ℤ → PlainVerdict → Type 0
+abbrev pub IsSaid : Loop → Store → List ℤ → PlainVerdict → Type 0
 IsSaid parts store active (PlainVerdict.GoOn closing) =
     (verdict parts store (map combination active) ≡ go_on) × (closing ≡ states_in (closed parts (order parts [] store (map combination active))))
 IsSaid parts store active (PlainVerdict.Bad iteration why line) =

@@ -4,9 +4,9 @@ use Rattle.std.specs.Prelude.{◌≡◌, ℕ, List, [], ◌∷◌, map, ℤ, pos
 use Rattle.dc_int.specs.Store.{Store}
 use Rattle.dc_code.specs.declared.verdict.Verdict as answers
 use Rattle.dc_code.specs.Combinations.{Span, values_of}
-use Rattle.dc_code.specs.Computation.{over, ended, done}
-use Rattle.dc_code.specs.Inner.{judging, parts, greatest_depth}
-use Rattle.dc_code.specs.Loops.{Parts, opened}
+use Rattle.dc_code.specs.Computation.{over, without_entries, done}
+use Rattle.dc_code.specs.Inner.{judging, nested_loop, greatest_depth}
+use Rattle.dc_code.specs.Loops.{Loop, header_of}
 use Rattle.dc_code.specs.Verdicts.{Verdict, go_on, seen}
 use Rattle.dc_code.specs.Visits.{Visited, visited}
 use Rattle.dc_tree.specs.declared.symbols.Symbol.{Symbol}
@@ -38,18 +38,18 @@ index_values head = values_of (span_in head)
 
 -- A loop of today's form: its header gives its index values, its variables have unspecified locality, and
 -- what the walker does for its block is an iteration.
-pub record IsVisitable (parts : Parts) (symbols : List Symbol) (head : Statement) (block : Items) : Type 0 where
+pub record IsVisitable (parts : Loop) (symbols : List Symbol) (head : Statement) (block : Items) : Type 0 where
   pub names : IsTrue (are_small_symbols symbols)
   pub small : IsTrue (is_small_loop (main_scope symbols) head block)
   pub run : IsRunBy parts (with_index (main_scope symbols) (index_name head)) block
   pub opens
       : (store : Store) (turns : ℕ)
-      → over store (opened parts.form turns) ≡ ended store (done (record { iterations = map combination (index_values head); turns = turns }))
+      → over store (header_of parts.form turns) ≡ without_entries store (done (record { iterations = map combination (index_values head); turns = turns }))
   pub plainly : IsPlainly parts
 
 -- The loop of a number in a program, as the main program reaches it.
-abbrev pub loop_parts : List Symbol → Source → ℕ → ℕ → Parts
-loop_parts symbols source turns place = parts judging (program_forms symbols source turns) greatest_depth place []
+abbrev pub loop_parts : List Symbol → Source → ℕ → ℕ → Loop
+loop_parts symbols source turns place = nested_loop judging (program_forms symbols source turns) greatest_depth place []
 
 -- ---- what is left
 
@@ -59,5 +59,5 @@ visit_of verdict store turns = record { verdict = verdict; store = store; turns 
 
 -- What is said of the loop, and the store behind it: the closing store where it goes on, and the same store
 -- where it doesn't.
-pub record IsVisit (parts : Parts) (before after : Store) (said : answers.Verdict) : Type 0 where
+pub record IsVisit (parts : Loop) (before after : Store) (said : answers.Verdict) : Type 0 where
   pub is : (turns : ℕ) → visited judging parts turns before ≡ visit_of (seen said) after turns

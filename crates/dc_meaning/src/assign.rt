@@ -4,7 +4,7 @@ ghost use Rattle.dc_tree.specs.SmallPrograms.{are_small_symbols, is_small_subscr
 ghost use Rattle.dc_tree.specs.Statements.{target_of};
 ghost use Rattle.dc_tree.specs.Syntax.{tree};
 ghost use Rattle.dc_meaning.specs.Actions as actions;
-ghost use Rattle.dc_meaning.specs.Standing.{entity_of, scope_of, own_of};
+ghost use Rattle.dc_meaning.specs.WalkScope.{entity_of, scope_of, own_of};
 ghost use Rattle.dc_meaning.specs.Storing.{assigned_whole, assigned, filled};
 ghost use Rattle.dc_meaning.specs.Walking.{Walks};
 ghost use Rattle.dc_code.specs.Troubles.{Slots};

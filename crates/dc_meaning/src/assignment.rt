@@ -4,7 +4,7 @@ ghost use Rattle.dc_tree.specs.SmallPrograms.{are_small_symbols, is_small_assign
 ghost use Rattle.dc_tree.specs.Statements as statements;
 ghost use Rattle.dc_tree.specs.Statements.{deed};
 ghost use Rattle.dc_meaning.specs.Actions as actions;
-ghost use Rattle.dc_meaning.specs.Standing.{scope_of, own_of};
+ghost use Rattle.dc_meaning.specs.WalkScope.{scope_of, own_of};
 ghost use Rattle.dc_meaning.specs.Walking.{Walks};
 
 use crate::assign::assign;

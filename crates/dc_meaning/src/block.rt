@@ -3,7 +3,7 @@ ghost use Rattle.dc_tree.specs.Blocks.{item, items, items_from};
 ghost use Rattle.dc_tree.specs.SmallPrograms.{are_small_symbols, is_small_block};
 ghost use Rattle.dc_meaning.specs.Actions as actions;
 ghost use Rattle.dc_meaning.specs.Execution.{exec, exec_all};
-ghost use Rattle.dc_meaning.specs.Standing.{scope_of, own_of, is_small_line};
+ghost use Rattle.dc_meaning.specs.WalkScope.{scope_of, own_of, is_small_line};
 ghost use Rattle.dc_meaning.specs.Walking.{Walks};
 
 use crate::assignment::act;

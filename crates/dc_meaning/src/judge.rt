@@ -1,7 +1,7 @@
 //! The plain judge: each iteration alone, by lists of what it does.
 
 ghost use Rattle.std.specs.Prelude.{◌≡◌, ◌≤◌, [], ◌∷◌, length, map, slice_get, option_map, Some, None, ℤ, IfOk, OnOk};
-ghost use Rattle.dc_code.specs.Loops.{Parts, alone, order, closed};
+ghost use Rattle.dc_code.specs.Loops.{Loop, alone, order, closed};
 ghost use Rattle.dc_code.specs.Troubles.{ended};
 ghost use Rattle.dc_code.specs.Verdicts.{seen, in_iteration, race_in, race_among};
 ghost use Rattle.dc_meaning.specs.Judging.{IsDone, IsOne, IsTask, IsMarked, IsOrdered, IsJudged, combination, runs_of, bad_of, told_of};
@@ -39,7 +39,7 @@ pub(crate) struct Told {
 
 /// Runs one iteration over the cells. They note what it does, and nothing else.
 fn iterate(task: Task<'_>, cells: &mut Cells, value: i64) -> Result<Option<(Why, u32)>, NoMemory>
-    ghost parts: { Parts }
+    ghost parts: { Loop }
     requires { IsTask parts task }
     ensures { IfOk result (λ met. IsDone (parts.block (cells.old).store [] (combination value)) cells.new met) }
 {
@@ -60,7 +60,7 @@ fn mark_one(
     value: i64,
     rows: &mut Vec<Vec<Mark>>,
 ) -> Result<Option<(Why, u32)>, NoMemory>
-    ghost parts: { Parts }
+    ghost parts: { Loop }
     requires task { IsTask parts task }
     requires copy { (cells.old).store ≡ (opening.now).store }
     ensures one { IfOk result (λ met. IsOne (alone parts (opening.now).store (combination value)) iteration (marks_of rows.old.items) (marks_of rows.new.items) met) }
@@ -80,7 +80,7 @@ pub(crate) fn mark_alone(
     active: &[i64],
     rows: &mut Vec<Vec<Mark>>,
 ) -> Result<Option<Bad>, NoMemory>
-    ghost parts: { Parts }
+    ghost parts: { Loop }
     requires task { IsTask parts task }
     requires few { length active.now ≤ 4194304 }
     ensures { IfOk result (λ bad. IsMarked parts (opening.now).store active.now (marks_of rows.old.items) (marks_of rows.new.items) bad) }
@@ -109,7 +109,7 @@ fn replay(
     first: i64,
     second: i64,
 ) -> Result<Option<Race>, NoMemory>
-    ghost parts: { Parts }
+    ghost parts: { Loop }
     requires { IsTask parts task }
     ensures { IfOk result (λ race. race ≡ race_in plain named.first named.second (order parts [] (opening.now).store (combination first ∷ combination second ∷ [])).runs) }
 {
@@ -130,7 +130,7 @@ fn run_in_order(
     active: &[i64],
     rows: &mut Vec<Vec<Mark>>,
 ) -> Result<(), NoMemory>
-    ghost parts: { Parts }
+    ghost parts: { Loop }
     requires task { IsTask parts task }
     requires few { length active.now ≤ 4194304 }
     ensures { OnOk result (IsOrdered (order parts [] (cells.old).store (map combination active.now)) (marks_of rows.old.items) (cells.new).store (marks_of rows.new.items)) }
@@ -183,7 +183,7 @@ fn race_of_pair(
     active: &[i64],
     named: Named,
 ) -> Result<Option<Told>, NoMemory>
-    ghost parts: { Parts }
+    ghost parts: { Loop }
     requires { IsTask parts task }
     ensures { IfOk result (λ told. option_map told_of told ≡ between_plain parts (opening.now).store (map combination active.now) (named.first, named.second)) }
 {
@@ -223,7 +223,7 @@ pub(crate) fn race_among(
     active: &[i64],
     rows: &[Vec<Mark>],
 ) -> Result<Option<Told>, NoMemory>
-    ghost parts: { Parts }
+    ghost parts: { Loop }
     requires task { IsTask parts task }
     requires fit { FitStore rows.now }
     requires marks { marks_of rows.now ≡ marked_runs 0 (runs_of parts (opening.now).store active.now) (blank_marks (opening.now).store) }
@@ -242,7 +242,7 @@ pub(crate) fn go_on(
     cells: &mut Cells,
     active: &[i64],
 ) -> Result<(), NoMemory>
-    ghost parts: { Parts }
+    ghost parts: { Loop }
     requires task { IsTask parts task }
     requires few { length active.now ≤ 4194304 }
     ensures { OnOk result ((cells.new).store ≡ closed parts (order parts [] (cells.old).store (map combination active.now))) }
@@ -266,7 +266,7 @@ fn judge_marked(
     active: &[i64],
     rows: &[Vec<Mark>],
 ) -> Result<Verdict, NoMemory>
-    ghost parts: { Parts }
+    ghost parts: { Loop }
     requires task { IsTask parts task }
     requires few { length active.now ≤ 4194304 }
     requires fit { FitStore rows.now }
@@ -294,7 +294,7 @@ pub(crate) fn judge(
     cells: &mut Cells,
     active: &[i64],
 ) -> Result<Verdict, NoMemory>
-    ghost parts: { Parts }
+    ghost parts: { Loop }
     requires task { IsTask parts task }
     requires few { length active.now ≤ 4194304 }
     ensures { IfOk result (λ said. IsJudged parts (cells.old).store active.now (cells.new).store said) }

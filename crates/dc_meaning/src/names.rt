@@ -3,7 +3,7 @@ ghost use Rattle.dc_int.specs.declared.kind.Kind.{Kind};
 ghost use Rattle.dc_int.specs.Sorts.{whole};
 ghost use Rattle.dc_tree.specs.Entities.{entity, outside, main_scope};
 ghost use Rattle.dc_tree.specs.SmallPrograms.{are_small_symbols, is_small_symbol, are_small_bounds};
-ghost use Rattle.dc_meaning.specs.Standing.{entity_of, entity_at, scope_of};
+ghost use Rattle.dc_meaning.specs.WalkScope.{entity_of, entity_at, scope_of};
 
 use crate::found::Found;
 use crate::walk::Walk;

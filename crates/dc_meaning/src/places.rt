@@ -5,7 +5,7 @@ ghost use Rattle.dc_code.specs.Troubles.{Slots};
 ghost use Rattle.dc_meaning.specs.declared.stop.Stop.{Stop};
 ghost use Rattle.dc_meaning.specs.Acts as acts;
 ghost use Rattle.dc_meaning.specs.Places.{element_at};
-ghost use Rattle.dc_meaning.specs.Standing.{entity_of, place_of_spot, subscripts_in, own_of};
+ghost use Rattle.dc_meaning.specs.WalkScope.{entity_of, place_of_spot, subscripts_in, own_of};
 ghost use Rattle.dc_meaning.specs.Walking.{View, Walks};
 
 use crate::cells::Cells;

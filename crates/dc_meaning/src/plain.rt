@@ -1,7 +1,7 @@
 //! A loop of a program, judged by itself over given states.
 
 ghost use Rattle.std.specs.Prelude.{◌≡◌, ◌≤◌, length, is_some, None, IfOk};
-ghost use Rattle.dc_code.specs.Loops.{Parts};
+ghost use Rattle.dc_code.specs.Loops.{Loop};
 ghost use Rattle.dc_tree.specs.Blocks.{source_of};
 ghost use Rattle.dc_meaning.specs.Alone.{nth_loop};
 ghost use Rattle.dc_meaning.specs.Judging.{IsTask, bad_of, runs_of};
@@ -41,7 +41,7 @@ fn told_by_marks(
     active: &[i64],
     rows: &[Vec<Mark>],
 ) -> Result<PlainVerdict, NoMemory>
-    ghost parts: { Parts }
+    ghost parts: { Loop }
     requires task { IsTask parts task }
     requires few { length active.now ≤ 4194304 }
     requires fit { FitStore rows.now }
@@ -75,7 +75,7 @@ fn told_of_loop(
     cells: &mut Cells,
     active: &[i64],
 ) -> Result<PlainVerdict, NoMemory>
-    ghost parts: { Parts }
+    ghost parts: { Loop }
     requires task { IsTask parts task }
     requires few { length active.now ≤ 4194304 }
     ensures { IfOk result (λ said. IsSaid parts (cells.old).store active.now said) }

@@ -8,7 +8,7 @@ ghost use Rattle.dc_tree.specs.SmallPrograms.{are_small_symbols, is_outside_scal
 ghost use Rattle.dc_tree.specs.Syntax as syntax;
 ghost use Rattle.dc_meaning.specs.Actions.{piece, pieces};
 ghost use Rattle.dc_meaning.specs.Showing.{shown};
-ghost use Rattle.dc_meaning.specs.Standing.{own_of};
+ghost use Rattle.dc_meaning.specs.WalkScope.{own_of};
 ghost use Rattle.dc_meaning.specs.Walking.{Walks};
 
 use crate::cells::Cells;

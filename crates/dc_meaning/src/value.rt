@@ -4,7 +4,7 @@ ghost use Rattle.dc_tree.specs.SmallPrograms.{are_small_symbols, is_small};
 ghost use Rattle.dc_tree.specs.Syntax.{tree};
 ghost use Rattle.dc_meaning.specs.Places.{value_at_entity};
 ghost use Rattle.dc_meaning.specs.Values as values;
-ghost use Rattle.dc_meaning.specs.Standing.{scope_of, subscripts_in, own_of};
+ghost use Rattle.dc_meaning.specs.WalkScope.{scope_of, subscripts_in, own_of};
 ghost use Rattle.dc_meaning.specs.Walking.{Walks};
 
 use crate::cells::Cells;

@@ -2,7 +2,7 @@
 
 ghost use Rattle.std.specs.Prelude.{◌≡◌, ◌≤◌, length, pos, IfOk, IsTrue};
 ghost use Rattle.dc_code.specs.Combinations.{values_of};
-ghost use Rattle.dc_code.specs.Loops.{Parts};
+ghost use Rattle.dc_code.specs.Loops.{Loop};
 ghost use Rattle.dc_tree.specs.Blocks.{items};
 ghost use Rattle.dc_tree.specs.Entities.{main_scope};
 ghost use Rattle.dc_tree.specs.SmallPrograms.{is_limit, is_small_loop};
@@ -72,7 +72,7 @@ pub fn visit(
     body: &Block,
     cells: &mut Cells,
 ) -> Result<Verdict, NoMemory>
-    ghost parts: { Parts }
+    ghost parts: { Loop }
     requires { IsVisitable parts symbols.now (statement head.now) (items body.now) }
     ensures { IfOk result (λ said. IsVisit parts (cells.old).store (cells.new).store said) }
 {

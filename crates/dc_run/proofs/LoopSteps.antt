@@ -5,14 +5,15 @@ use Rattle.std.proofs.lemmas.Bool.{and_parts}
 use Rattle.std.proofs.lemmas.Option.{none-some, same_Some}
 use Rattle.dc_code.specs.declared.verdict.Verdict as answers
 use Rattle.dc_code.specs.Computation.{give, sequence}
+use Rattle.dc_code.specs.Combinations.{natural}
 use Rattle.dc_code.specs.Inner.{Forms}
-use Rattle.dc_code.specs.Loops.{Parts}
+use Rattle.dc_code.specs.Loops.{Loop}
 use Rattle.dc_code.specs.Troubles.{Computing}
 use Rattle.dc_code.specs.Verdicts.{seen}
 use Rattle.dc_code.specs.Visits.{Visited}
 use Rattle.dc_tree.specs.declared.program.Block.{Block}
 use Rattle.dc_tree.specs.declared.program.Lined.{Lined}
-use Rattle.dc_tree.specs.declared.program.Node.{Node, Plain, Loop}
+use Rattle.dc_tree.specs.declared.program.Node.{Node, Plain, Loop as LoopNode}
 use Rattle.dc_tree.specs.declared.symbols.Symbol.{Symbol}
 use Rattle.dc_tree.specs.Blocks.{Line, Items, plain, branch, select, loop, none, and_then, line_of, item, items}
 use Rattle.dc_tree.specs.Entities.{Scope}
@@ -25,7 +26,7 @@ use Rattle.dc_tree.specs.Syntax.{Tree, number, truth, chars, name, refer, paren,
 use Rattle.dc_tree.proofs.Views.{item-Plain, item-Loop}
 use Rattle.dc_meaning.specs.Actions.{Flow, on, act, printing}
 use Rattle.dc_meaning.specs.Acts.{State}
-use Rattle.dc_meaning.specs.Execution.{natural, concurrent_do, loop_of, plain_line, is_concurrent, loops_in, loops_in_all, exec, exec_all}
+use Rattle.dc_meaning.specs.Execution.{concurrent_do, loop_of, plain_line, is_concurrent, loops_in, loops_in_all, exec, exec_all}
 use Rattle.dc_meaning.specs.Values.{Callee}
 use Rattle.dc_meaning.specs.Visiting.{IsVisit, visit_of}
 use Rattle.dc_meaning.specs.Walking.{View, state_in}
@@ -58,7 +59,7 @@ module _ (given : List ℕ) (looping : Looping) (symbols : List Symbol) (before 
   said-told (answers.Verdict.IterSpent line at) bounds = nothing-more before.output _ ∙ ap (λ b. record { output = before.output; ending = endings.stopped (seen (answers.Verdict.IterSpent line at)) b }) bounds
   said-told (answers.Verdict.Race found first second) bounds = nothing-more before.output _ ∙ ap (λ b. record { output = before.output; ending = endings.stopped (seen (answers.Verdict.Race found first second)) b }) bounds
 
-pub steps-loop : (looping : Looping) (symbols : List Symbol) (before : standings.Standing) (after : View) (parts : Parts) (said : answers.Verdict) (loops : ℕ) → RunsSo looping before.loops parts
+pub steps-loop : (looping : Looping) (symbols : List Symbol) (before : standings.Standing) (after : View) (parts : Loop) (said : answers.Verdict) (loops : ℕ) → RunsSo looping before.loops parts
     → IsVisit parts before.cells.store after.store said → bounds_in before.cells.store (seen said) ≡ bounds_named symbols said → MeetsOwn symbols (stopped_by said)
     → Steps looping symbols before (behind-visit before after loops) (λ call. concurrent_do before.loops) (stopped_by said)
 steps-loop looping symbols before after parts said loops runs visit bounds own =
@@ -130,7 +131,7 @@ loop-is scope call place head close body e =
     let small = small-loop scope head.says body e in
     ap (λ s. loop_of scope call place (record { line = head.line; says = s }) (exec_all scope call place body)) small.is
 
-module _ (scope : Scope) (place : ℕ) (node : Node) (head : Lined) (body : Block) (close : Lined) (is : node ≡ Loop head body close) where
+module _ (scope : Scope) (place : ℕ) (node : Node) (head : Lined) (body : Block) (close : Lined) (is : node ≡ LoopNode head body close) where
   pub item-is : item node ≡ loop (line_of head) (items body) (line_of close)
   item-is = ap item is ∙ item-Loop head body close
 

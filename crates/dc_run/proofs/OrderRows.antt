@@ -7,8 +7,8 @@ use Rattle.dc_int.specs.declared.access.ElementId.{ElementId}
 use Rattle.dc_int.specs.declared.operation.ReduceOp.{ReduceOp}
 use Rattle.dc_int.specs.Entries.{Entry, Reads, Defines, Undefines, Contributes}
 use Rattle.dc_int.specs.Store.{value_at, cell_of, put_at}
-use Rattle.dc_code.specs.Inner.{judging, in_order, parts, greatest_depth}
-use Rattle.dc_code.specs.Loops.{Orders, Passage, Parts, order}
+use Rattle.dc_code.specs.Inner.{judging, in_order, nested_loop, greatest_depth}
+use Rattle.dc_code.specs.Loops.{Orders, Passage, Loop, order}
 use Rattle.dc_tree.specs.declared.stmt.Intent.{Intent}
 use Rattle.dc_tree.specs.declared.stmt.Local.{Local}
 use Rattle.dc_tree.specs.declared.symbols.Role.{Role}
@@ -127,8 +127,8 @@ inner-reduction-descending = refl
 -- ---- orders handed to a block
 
 -- The first loop of a source, judged, and what its block does with orders for the loops inside.
-abbrev loop_of : List Symbol → Source → Parts
-loop_of symbols source = parts judging (program_forms symbols source 1000) greatest_depth 0 []
+abbrev loop_of : List Symbol → Source → Loop
+loop_of symbols source = nested_loop judging (program_forms symbols source 1000) greatest_depth 0 []
 
 abbrev block : List Symbol → Source → Orders → Passage
 block symbols source orders = (loop_of symbols source).block (first_store symbols) orders (pos 1 ∷ [])
@@ -276,7 +276,7 @@ unfolding digits value_at cell_of put_at int_wrap
 deeper-until-bad = refl
 
 -- In an order that isn't judged, the block has what the iterations of that order did up to the bad one.
-unjudged-until-bad : ((parts (in_order 1) (program_forms inner_symbols until_bad 1000) greatest_depth 0 []).block (first_store inner_symbols) []
+unjudged-until-bad : ((nested_loop (in_order 1) (program_forms inner_symbols until_bad 1000) greatest_depth 0 []).block (first_store inner_symbols) []
     (pos 1 ∷ [])).entries
     ≡ Reads (at 2 0) 6 ∷ Defines (at 1 0) (pos 3) 5 ∷ Reads (at 1 0) 6 ∷ Reads (at 2 0) 6 ∷ Defines (at 0 0) (pos 16) 6
     ∷ Defines (at 1 0) (pos 3) 4 ∷ Defines (at 0 0) (pos 16) 4 ∷ Defines (at 1 0) (pos 2) 5 ∷ Reads (at 1 0) 6 ∷ Defines (at 1 0) (pos 2) 4 ∷ []
@@ -285,7 +285,7 @@ unjudged-until-bad = refl
 
 -- The turn of a call is spent before places become undefined, which they do in the order of the arguments.
 turn-before-undefined :
-    ((parts judging
+    ((nested_loop judging
     (program_forms (declared t scalar ∷ declared n scalar ∷ declared i scalar ∷ declared s (Role.Subroutine 1)
     ∷ declared_in 1 u (dummy 1 Intent.Out) ∷ declared_in 1 x (dummy 0 Intent.Out) ∷ [])
     (program_with (concurrent 3 (from_to i one two ∷ []) [] (call 4 s (var t ∷ var n ∷ []) ∷ call 5 s (var t ∷ var n ∷ []) ∷ []) ∷ [])

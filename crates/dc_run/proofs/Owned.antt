@@ -14,7 +14,7 @@ use Rattle.dc_code.specs.declared.verdict.Verdict as answers
 use Rattle.dc_code.specs.Computation.{done, over}
 use Rattle.dc_code.specs.Inner.{judging}
 use Rattle.dc_code.specs.Laws.{Made}
-use Rattle.dc_code.specs.Loops.{Parts, Opened, opened}
+use Rattle.dc_code.specs.Loops.{Loop, HeaderResult, header_of}
 use Rattle.dc_code.specs.Verdicts.{Verdict, go_on, at_header, in_iteration, race, verdict, visited_by}
 use Rattle.dc_code.specs.Visits.{Visited, visited}
 use Rattle.dc_code.proofs.Judged.{race-names}
@@ -132,13 +132,13 @@ accesses-own symbols source turns number head block form is =
 
 -- ---- a race of a visit
 
-said-kept : (loop : Parts) (store : Store) (opening : Opened) (said : Verdict) → (visited_by loop store opening said).verdict ≡ said
+said-kept : (loop : Loop) (store : Store) (opening : HeaderResult) (said : Verdict) → (visited_by loop store opening said).verdict ≡ said
 said-kept loop store opening go_on = refl
 said-kept loop store opening (at_header trouble) = refl
 said-kept loop store opening (in_iteration trouble at) = refl
 said-kept loop store opening (race found first second) = refl
 
-visited-verdict : (loop : Parts) (turns : ℕ) (store : Store) (opening : Opened) → (over store (opened loop.form turns)).reached ≡ done opening
+visited-verdict : (loop : Loop) (turns : ℕ) (store : Store) (opening : HeaderResult) → (over store (header_of loop.form turns)).reached ≡ done opening
     → (visited judging loop turns store).verdict ≡ verdict loop store opening.iterations
 visited-verdict loop turns store opening e = rw e (said-kept loop store opening (verdict loop store opening.iterations))
 
@@ -150,7 +150,7 @@ of-value (z ∷ zs) (suc k) at e = of-value zs k at e
 same-first : (one other : List Entry) (rest more : List (List Entry)) → one ∷ rest ≡ other ∷ more → one ≡ other
 same-first one other rest more e = cc
 
-race-own : (symbols : List Symbol) (loop : Parts) (store : Store) (zs : List ℤ) (found : Race) (first second : List ℤ) → AccessesOwn symbols loop
+race-own : (symbols : List Symbol) (loop : Loop) (store : Store) (zs : List ℤ) (found : Race) (first second : List ℤ) → AccessesOwn symbols loop
     → verdict loop store (map combination zs) ≡ race found first second → IsInside symbols found.element
 race-own symbols loop store zs found first second own told =
     let names = race-names loop store (map combination zs) found first second told in
@@ -160,15 +160,15 @@ race-own symbols loop store zs found first second own told =
     own.each store z.0 (record { action = found.first.action; element = found.element; line = found.first.line })
     (subst (Made (record { action = found.first.action; element = found.element; line = found.first.line })) same begins.real.first_does)
 
-pub visit-own : (symbols : List Symbol) (loop : Parts) (head : Statement) (block : Items) (before after : Store) (said : answers.Verdict) → IsVisitable loop symbols head block → AccessesOwn symbols loop
+pub visit-own : (symbols : List Symbol) (loop : Loop) (head : Statement) (block : Items) (before after : Store) (said : answers.Verdict) → IsVisitable loop symbols head block → AccessesOwn symbols loop
     → IsVisit loop before after said → MeetsOwn symbols (stopped_by said)
 visit-own symbols loop head block before after answers.Verdict.GoOn visitable own visit = tt
 visit-own symbols loop head block before after (answers.Verdict.HeaderFault why line mask) visitable own visit = tt
 visit-own symbols loop head block before after (answers.Verdict.IterFault why line at) visitable own visit = tt
 visit-own symbols loop head block before after (answers.Verdict.IterSpent line at) visitable own visit = tt
 visit-own symbols loop head block before after (answers.Verdict.Race found first second) visitable own visit =
-    let opening : Opened = record { iterations = map combination (index_values head); turns = 0 } in
-    let reached : (over before (opened loop.form 0)).reached ≡ done opening = ap (λ r. r.reached) (visitable.opens before 0) in
+    let opening : HeaderResult = record { iterations = map combination (index_values head); turns = 0 } in
+    let reached : (over before (header_of loop.form 0)).reached ≡ done opening = ap (λ r. r.reached) (visitable.opens before 0) in
     let told : verdict loop before (map combination (index_values head)) ≡ race found first second =
     sym (visited-verdict loop 0 before opening reached) ∙ ap (λ (v : Visited). v.verdict) (visit.is 0) in
     race-own symbols loop before (index_values head) found first second own told

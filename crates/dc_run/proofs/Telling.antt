@@ -1,7 +1,7 @@
 -- What a run writes, for examples.
 use Rattle.std.specs.Prelude.{ℕ, List, [], ◌++◌, ℤ}
 use Rattle.dc_int.specs.Store.{Store}
-use Rattle.dc_code.specs.Inner.{judging, in_order, parts, greatest_depth}
+use Rattle.dc_code.specs.Inner.{judging, in_order, nested_loop, greatest_depth}
 use Rattle.dc_code.specs.Loops.{Passage, alone}
 use Rattle.dc_tree.specs.declared.symbols.Symbol.{Symbol}
 use Rattle.dc_tree.specs.Blocks.{Source}
@@ -29,4 +29,4 @@ ordered number symbols source = told symbols (run (in_order number) symbols sour
 
 -- What an iteration of a program's first loop does alone on a store.
 abbrev pub iteration_alone : List Symbol → Source → Store → List ℤ → Passage
-iteration_alone symbols source store at = alone (parts judging (program_forms symbols source 1000) greatest_depth 0 []) store at
+iteration_alone symbols source store at = alone (nested_loop judging (program_forms symbols source 1000) greatest_depth 0 []) store at

@@ -6,10 +6,10 @@ use Rattle.dc_int.specs.Store.{Store, value_at, bounds_of}
 use Rattle.dc_code.specs.declared.verdict.Verdict as answers
 use Rattle.dc_code.specs.Closing.{changes}
 use Rattle.dc_code.specs.Computation.{give, fail, read, define, undefine, contribute, ask, pause, Reached, done, bad, paused, over, SameShape}
-use Rattle.dc_code.specs.Inner.{Forms, judging, parts, greatest_depth, added, up_to_bad, inner, told_by}
-use Rattle.dc_code.specs.Loops.{Parts, alone, Passage, Orders, Opened, opened, iterations_of, Ordered, order, joined, nothing_done}
+use Rattle.dc_code.specs.Inner.{Forms, judging, nested_loop, greatest_depth, added, up_to_bad, inner, told_by}
+use Rattle.dc_code.specs.Loops.{Loop, alone, Passage, Orders, HeaderResult, header_of, iterations_of, Ordered, order, joined, nothing_done}
 use Rattle.dc_code.specs.Orders.{as_ordered}
-use Rattle.dc_code.specs.Passages.{Entering, ended_well, behind, through}
+use Rattle.dc_code.specs.Passages.{Entering, ended_well, passage_behind, through}
 use Rattle.dc_code.specs.Troubles.{Trouble, Slots, Computing, write_line, take_value, take_elements, end_reading, enter_loop, stop}
 use Rattle.dc_code.specs.Verdicts.{Verdict, go_on, at_header, in_iteration, race, verdict, visited_by, judged_by, judgement, trouble_in, seen}
 use Rattle.dc_code.specs.Visits.{Visited, visited}
@@ -43,7 +43,7 @@ through-shape enter keeps store orders (pause (enter_loop number turns slots) re
     let next = through enter passage.store passage.orders (rest (pos passage.turns)) in
     by passage next (keeps number turns slots store orders) (through-shape enter keeps passage.store passage.orders (rest (pos passage.turns))) (is_none passage.trouble)
   where
-    by : (passage next : Passage) → SameShape store passage.store → SameShape passage.store next.store → (b : Bool) → SameShape store (cond b (behind passage.entries next) passage).store
+    by : (passage next : Passage) → SameShape store passage.store → SameShape passage.store next.store → (b : Bool) → SameShape store (cond b (passage_behind passage.entries next) passage).store
     by passage next first second true = shape-then store passage.store next.store first second
     by passage next first second false = first
 through-shape enter keeps store orders (pause (write_line line pieces) rest) = through-shape enter keeps store orders (rest (pos 0))
@@ -55,36 +55,36 @@ through-shape enter keeps store orders (pause stop rest) = through-shape enter k
 -- ---- a loop inside
 
 told-shape
-    : (loop : Parts) (store : Store) (header : List Entry) (orders : Orders) (iterations : List (List ℤ)) (turns : ℕ) (trouble : Option Trouble)
+    : (loop : Loop) (store : Store) (header : List Entry) (orders : Orders) (iterations : List (List ℤ)) (turns : ℕ) (trouble : Option Trouble)
     → SameShape store (told_by loop store header orders iterations turns trouble).store
 told-shape loop store header orders iterations turns (Some trouble) =
     shape-after (header ++ added loop.form.line (up_to_bad (map (alone loop store) iterations))) store
 told-shape loop store header orders iterations turns None =
     let ordered = order loop (drop 1 orders) store (as_ordered orders iterations) in
-    shape-after (header ++ (added loop.form.line ordered.runs ++ changes loop.form.known loop.form.line ordered.runs ordered.store)) store
+    shape-after (header ++ (added loop.form.line ordered.runs ++ changes loop.form.localities loop.form.line ordered.runs ordered.store)) store
 
-inner-shape : (loop : Parts) (turns : ℕ) (store : Store) (orders : Orders) → SameShape store (inner judging loop turns store orders).store
+inner-shape : (loop : Loop) (turns : ℕ) (store : Store) (orders : Orders) → SameShape store (inner judging loop turns store orders).store
 inner-shape loop turns store orders =
-    let header = over store (opened loop.form turns) in
+    let header = over store (header_of loop.form turns) in
     let said = judgement loop turns store in
     told-shape loop store header.entries orders (iterations_of header.reached) said.turns (trouble_in said.verdict)
 
 -- ---- iterations
 
-parts-shape : (forms : Forms) (depth number : ℕ) (slots : Slots) (store : Store) (orders : Orders) (at : List ℤ) → SameShape store ((parts judging forms depth number slots).block store orders at).store
+parts-shape : (forms : Forms) (depth number : ℕ) (slots : Slots) (store : Store) (orders : Orders) (at : List ℤ) → SameShape store ((nested_loop judging forms depth number slots).block store orders at).store
 parts-shape forms zero number slots store orders at =
     let form = forms number slots in
     through-shape (λ inside turns around before left. ended_well before turns left) (λ inside turns around before left. same-shape before) store orders (form.block (map (value_at store) form.copied) at)
 parts-shape forms (suc depth) number slots store orders at =
     let form = forms number slots in
-    through-shape (λ inside turns around before left. inner judging (parts judging forms depth inside around) turns before left)
-    (λ inside turns around before left. inner-shape (parts judging forms depth inside around) turns before left) store orders (form.block (map (value_at store) form.copied) at)
+    through-shape (λ inside turns around before left. inner judging (nested_loop judging forms depth inside around) turns before left)
+    (λ inside turns around before left. inner-shape (nested_loop judging forms depth inside around) turns before left) store orders (form.block (map (value_at store) form.copied) at)
 
 pub loop-keeps : (forms : Forms) (number : ℕ) → KeepsShape (loop_in forms number)
 unfolding loop_in
 loop-keeps forms number = record { each = λ store orders at. parts-shape forms greatest_depth number [] store orders at }
 
-order-shape : (loop : Parts) → KeepsShape loop → (orders : Orders) (store : Store) (iterations : List (List ℤ)) → SameShape store (order loop orders store iterations).store
+order-shape : (loop : Loop) → KeepsShape loop → (orders : Orders) (store : Store) (iterations : List (List ℤ)) → SameShape store (order loop orders store iterations).store
 order-shape loop keeps orders store [] = same-shape store
 order-shape loop keeps orders store (at ∷ rest) =
     let passage = loop.block store orders at in
@@ -97,21 +97,21 @@ order-shape loop keeps orders store (at ∷ rest) =
 
 -- ---- a loop of the main program
 
-said-shape : (loop : Parts) → KeepsShape loop → (store : Store) (opening : Opened) (said : Verdict) → SameShape store (visited_by loop store opening said).store
+said-shape : (loop : Loop) → KeepsShape loop → (store : Store) (opening : HeaderResult) (said : Verdict) → SameShape store (visited_by loop store opening said).store
 said-shape loop keeps store opening go_on =
     let ordered = order loop [] store opening.iterations in
-    shape-then store ordered.store _ (order-shape loop keeps [] store opening.iterations) (shape-after (changes loop.form.known loop.form.line ordered.runs ordered.store) ordered.store)
+    shape-then store ordered.store _ (order-shape loop keeps [] store opening.iterations) (shape-after (changes loop.form.localities loop.form.line ordered.runs ordered.store) ordered.store)
 said-shape loop keeps store opening (at_header trouble) = same-shape store
 said-shape loop keeps store opening (in_iteration trouble at) = same-shape store
 said-shape loop keeps store opening (race found first second) = same-shape store
 
-judged-shape : (loop : Parts) → KeepsShape loop → (store : Store) (reached : Reached ⊥ Trouble Opened) → SameShape store (judged_by loop store reached).store
+judged-shape : (loop : Loop) → KeepsShape loop → (store : Store) (reached : Reached ⊥ Trouble HeaderResult) → SameShape store (judged_by loop store reached).store
 judged-shape loop keeps store (bad trouble) = same-shape store
 judged-shape loop keeps store (done opening) = said-shape loop keeps store opening (verdict loop store opening.iterations)
 judged-shape loop keeps store (paused event rest) = absurd event
 
-visited-shape : (loop : Parts) → KeepsShape loop → (turns : ℕ) (store : Store) → SameShape store (visited judging loop turns store).store
-visited-shape loop keeps turns store = judged-shape loop keeps store (over store (opened loop.form turns)).reached
+visited-shape : (loop : Loop) → KeepsShape loop → (turns : ℕ) (store : Store) → SameShape store (visited judging loop turns store).store
+visited-shape loop keeps turns store = judged-shape loop keeps store (over store (header_of loop.form turns)).reached
 
 visit-store : (said : Verdict) (after : Store) → (visit_of said after 0).store ≡ after
 visit-store go_on after = refl
@@ -120,6 +120,6 @@ visit-store (in_iteration trouble at) after = refl
 visit-store (race found first second) after = refl
 
 -- What a visit leaves.
-pub left-shape : (loop : Parts) → KeepsShape loop → (before after : Store) (said : answers.Verdict) → IsVisit loop before after said → SameShape before after
+pub left-shape : (loop : Loop) → KeepsShape loop → (before after : Store) (said : answers.Verdict) → IsVisit loop before after said → SameShape before after
 left-shape loop keeps before after said visit =
     subst (SameShape before) (ap (λ (found : Visited). found.store) (visit.is 0) ∙ visit-store (seen said) after) (visited-shape loop keeps 0 before)

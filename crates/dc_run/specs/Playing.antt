@@ -7,7 +7,7 @@ use Rattle.dc_int.specs.declared.fault.Why.{Why}
 use Rattle.dc_int.specs.Sorts.{Sort}
 use Rattle.dc_int.specs.Store.{Bounds, Store, value_at, put_at, bounds_of}
 use Rattle.dc_code.specs.Computation.{give, fail, read, define, undefine, contribute, ask, pause}
-use Rattle.dc_code.specs.Inner.{Rule, parts, greatest_depth}
+use Rattle.dc_code.specs.Inner.{Rule, nested_loop, greatest_depth}
 use Rattle.dc_code.specs.Troubles.{Trouble, raced, Computing, Slots, Piece, value, text, Event, write_line, take_value, take_elements, end_reading, enter_loop, stop}
 use Rattle.dc_code.specs.Verdicts.{Verdict, go_on, in_iteration, race}
 use Rattle.dc_code.specs.Visits.{Visited, visited}
@@ -155,7 +155,7 @@ played looping at (pause event rest) = answered looping at event (λ then_at tol
 
 -- The loops of a program under a rule, where each mask and each iteration has so many turns.
 abbrev pub looping_by : Rule → List Symbol → Source → ℕ → Looping
-looping_by rule symbols source turns number slots left store = visited rule (parts rule (program_forms symbols source turns) greatest_depth number slots) left store
+looping_by rule symbols source turns number slots left store = visited rule (nested_loop rule (program_forms symbols source turns) greatest_depth number slots) left store
 
 -- The run of a program under a rule, with so many turns and an input.
 abbrev pub run : Rule → List Symbol → Source → ℕ → List ℕ → Outcome

@@ -7,9 +7,9 @@ use Rattle.dc_int.specs.declared.access.Access.{Access}
 use Rattle.dc_int.specs.Store.{Store}
 use Rattle.dc_code.specs.declared.verdict.Verdict as answers
 use Rattle.dc_code.specs.Computation.{sequence, SameShape}
-use Rattle.dc_code.specs.Inner.{Forms, judging, parts, greatest_depth}
+use Rattle.dc_code.specs.Inner.{Forms, judging, nested_loop, greatest_depth}
 use Rattle.dc_code.specs.Laws.{Made}
-use Rattle.dc_code.specs.Loops.{Parts, Orders}
+use Rattle.dc_code.specs.Loops.{Loop, Orders}
 use Rattle.dc_code.specs.Troubles.{Computing}
 use Rattle.dc_code.specs.Visits.{visited}
 use Rattle.dc_lists.specs.Output.{line_of}
@@ -113,19 +113,19 @@ IsCounted standing = standing.loops < 18446744073709551615
 -- ---- loops
 
 -- The loop of a number, with those inside it.
-unfoldable pub loop_in : Forms → ℕ → Parts
-loop_in forms number = parts judging forms greatest_depth number []
+unfoldable pub loop_in : Forms → ℕ → Loop
+loop_in forms number = nested_loop judging forms greatest_depth number []
 
 -- Loops of these forms, judged.
 abbrev pub looping_in : Forms → Looping
-looping_in forms number slots left store = visited judging (parts judging forms greatest_depth number slots) left store
+looping_in forms number slots left store = visited judging (nested_loop judging forms greatest_depth number slots) left store
 
 -- A loop of this number is run so.
-pub record RunsSo (looping : Looping) (number : ℕ) (loop : Parts) : Type 0 where
+pub record RunsSo (looping : Looping) (number : ℕ) (loop : Loop) : Type 0 where
   pub is : (turns : ℕ) (store : Store) → looping number [] turns store ≡ visited judging loop turns store
 
 -- The accesses of an iteration alone are of elements that are there.
-pub record AccessesOwn (symbols : List Symbol) (loop : Parts) : Type 0 where
+pub record AccessesOwn (symbols : List Symbol) (loop : Loop) : Type 0 where
   pub each
       : (store : Store) (z : ℤ) (access : Access) → Made access (loop.block store [] (combination z)).entries
       → IsElement symbols access.element
@@ -136,7 +136,7 @@ IsVisitableAt forms symbols number (loop head block close) = IsVisitable (loop_i
 IsVisitableAt forms symbols number other = Unit
 
 -- An iteration leaves the elements of the store, and the bounds of its variables.
-pub record KeepsShape (loop : Parts) : Type 0 where
+pub record KeepsShape (loop : Loop) : Type 0 where
   pub each : (store : Store) (orders : Orders) (at : List ℤ) → SameShape store (loop.block store orders at).store
 
 -- The loops of a main program can be visited, and access elements that are there.

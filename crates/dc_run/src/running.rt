@@ -3,7 +3,7 @@
 ghost use Rattle.std.specs.Prelude.{◌≡◌, ◌+◌, ◌||◌, IsTrue, true, IfOk, List, map, ℕ, [], ◌∷◌};
 ghost use Rattle.std.specs.Option.{option_copied};
 ghost use Rattle.dc_code.specs.Inner.{Forms};
-ghost use Rattle.dc_code.specs.Loops.{Parts};
+ghost use Rattle.dc_code.specs.Loops.{Loop};
 ghost use Rattle.dc_tree.specs.Blocks.{item, items, items_from, line_of, source_of};
 ghost use Rattle.dc_tree.specs.Entities.{entity, main_scope};
 ghost use Rattle.dc_tree.specs.SmallPrograms.{are_small_symbols, is_outside_scalar, is_vector, is_small_assignment, is_small_output, is_small_item, are_small_items, is_small_program};
@@ -163,7 +163,7 @@ fn run_loop(
     body: &Block,
     standing: &mut Standing,
 ) -> Result<Option<Ending>, NoMemory>
-    ghost parts: { Parts }
+    ghost parts: { Loop }
     requires visitable { IsVisitable parts symbols.now (statement head.now) (items body.now) }
     requires keeps { KeepsShape parts }
     requires owns { AccessesOwn symbols.now parts }

@@ -3,7 +3,7 @@ use Rattle.dc_code.proofs.Orders.{race-in_order}
 use Rattle.dc_code.proofs.loop_law.a_race_is_in_its_orders.Goals as goal
 
 pub returns-clause-names : goal.returns-clause-names
-returns-clause-names c = λ parts store iterations found first second told. race-names parts store iterations found first second told
+returns-clause-names c = λ loop store iterations found first second told. race-names loop store iterations found first second told
 
 pub returns-clause-begins : goal.returns-clause-begins
-returns-clause-begins c = λ parts store iterations found first second told rest. race-in_order parts store iterations found first second told rest
+returns-clause-begins c = λ loop store iterations found first second told rest. race-in_order loop store iterations found first second told rest

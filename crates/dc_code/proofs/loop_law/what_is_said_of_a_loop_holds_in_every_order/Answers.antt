@@ -4,4 +4,4 @@ use Rattle.dc_code.proofs.loop_law.what_is_said_of_a_loop_holds_in_every_order.G
 
 pub returns : goal.returns
 returns c = λ loop turns store framed differs shapes matches fits keep.
-    says-of-orders loop store framed differs (fits-holds loop.form.known shapes store matches fits) turns keep
+    says-of-orders loop store framed differs (fits-holds loop.form.localities shapes store matches fits) turns keep

@@ -4,7 +4,7 @@ use Rattle.std.specs.Int.{w64}
 use Rattle.std.proofs.lemmas.Int.{to_z-of_z}
 use Rattle.dc_tree.specs.Entities.{entity}
 use Rattle.dc_tree.specs.Syntax.{tree}
-use Rattle.dc_meaning.specs.Standing.{entity_of, own_of, scope_of}
+use Rattle.dc_meaning.specs.WalkScope.{entity_of, own_of, scope_of}
 use Rattle.dc_meaning.specs.Storing.{assigned, assigned_whole}
 use Rattle.dc_meaning.proofs.Walking.{walks-as}
 use Rattle.dc_meaning.proofs.Storing.{target-item}

@@ -5,7 +5,7 @@ use Rattle.dc_int.specs.declared.kind.Kind.{Kind}
 use Rattle.dc_int.specs.Kinds.{wrapped}
 use Rattle.dc_tree.specs.Syntax.{tree}
 use Rattle.dc_meaning.specs.Places.{element_at}
-use Rattle.dc_meaning.specs.Standing.{entity_of, own_of, scope_of}
+use Rattle.dc_meaning.specs.WalkScope.{entity_of, own_of, scope_of}
 use Rattle.dc_meaning.proofs.Walking.{walks-as, handed}
 use Rattle.dc_meaning.proofs.Storing.{subscript-bad, element-bad, element-walks}
 use Rattle.dc_meaning.proofs.assign.assign_element.Goals as goal

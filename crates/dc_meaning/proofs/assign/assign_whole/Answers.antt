@@ -3,7 +3,7 @@ use Rattle.std.specs.Int.{w64}
 use Rattle.std.proofs.lemmas.Int.{to_z-of_z}
 use Rattle.dc_int.specs.declared.kind.Kind.{Kind}
 use Rattle.dc_int.specs.Kinds.{wrapped}
-use Rattle.dc_meaning.specs.Standing.{entity_of}
+use Rattle.dc_meaning.specs.WalkScope.{entity_of}
 use Rattle.dc_meaning.specs.Storing.{assigned_whole}
 use Rattle.dc_meaning.proofs.Walking.{walks-as}
 use Rattle.dc_meaning.proofs.Storing.{scalar-assigned, vector-assigned}

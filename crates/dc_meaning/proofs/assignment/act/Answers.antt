@@ -1,7 +1,7 @@
 use Rattle.std.proofs.Common.{rules}
 use Rattle.std.specs.Int.{w64}
 use Rattle.std.proofs.lemmas.Int.{to_z-of_z}
-use Rattle.dc_meaning.specs.Standing.{scope_of}
+use Rattle.dc_meaning.specs.WalkScope.{scope_of}
 use Rattle.dc_meaning.proofs.Walking.{handed}
 use Rattle.dc_meaning.proofs.Performing.{assign-bad, assign-walks}
 use Rattle.dc_meaning.proofs.assignment.act.Goals as goal

@@ -1,4 +1,4 @@
-use Rattle.dc_meaning.specs.Standing.{scope_of}
+use Rattle.dc_meaning.specs.WalkScope.{scope_of}
 use Rattle.dc_meaning.proofs.Walking.{handed}
 use Rattle.dc_meaning.proofs.Blocking.{rest-small, block-next, block-bad, block-none}
 use Rattle.dc_meaning.proofs.block.perform_all.Goals as goal

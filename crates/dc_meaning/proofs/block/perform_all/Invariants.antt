@@ -4,7 +4,7 @@ use Rattle.dc_tree.specs.Blocks.{item, items_from}
 use Rattle.dc_tree.specs.SmallPrograms.{is_small_block}
 use Rattle.dc_meaning.specs.declared.stop.Stop.{Stop}
 use Rattle.dc_meaning.specs.Execution.{exec_all}
-use Rattle.dc_meaning.specs.Standing.{scope_of, own_of}
+use Rattle.dc_meaning.specs.WalkScope.{scope_of, own_of}
 use Rattle.dc_meaning.specs.Walking.{View, Walks}
 use Rattle.dc_meaning.proofs.Storing.{goes_on}
 use Rattle.dc_meaning.proofs.block.perform_all.Given as goal

@@ -1,4 +1,4 @@
-use Rattle.dc_meaning.specs.Standing.{scope_of}
+use Rattle.dc_meaning.specs.WalkScope.{scope_of}
 use Rattle.dc_meaning.proofs.Blocking.{plain-walks}
 use Rattle.dc_meaning.proofs.block.perform_node.Goals as goal
 

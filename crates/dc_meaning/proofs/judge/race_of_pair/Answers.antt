@@ -2,7 +2,7 @@ use Rattle.std.proofs.Common.{rules, ◌≡◌, ◌∙◌, ◌∷◌, [], sym, a
 use Rattle.std.specs.Prelude.{option_and_then}
 use Rattle.dc_int.specs.Store.{Store}
 use Rattle.dc_code.specs.declared.verdict.Race.{Race}
-use Rattle.dc_code.specs.Loops.{Parts, order}
+use Rattle.dc_code.specs.Loops.{Loop, order}
 use Rattle.dc_code.specs.Verdicts.{race, race_in}
 use Rattle.dc_meaning.specs.Judging.{combination}
 use Rattle.dc_meaning.specs.Pairing.{between_plain}
@@ -11,7 +11,7 @@ use Rattle.dc_meaning.proofs.Racing.{both-there}
 use Rattle.dc_meaning.proofs.judge.race_of_pair.Goals as goal
 
 -- the race of two iterations that are there, by what was found of them
-found : (parts : Parts) (store : Store) (active : List ℤ) (p : ℕ × ℕ) (f s f' s' : ℤ) (o : Option Race) → slice_get active p.0 ≡ Some f → slice_get active p.1 ≡ Some s
+found : (parts : Loop) (store : Store) (active : List ℤ) (p : ℕ × ℕ) (f s f' s' : ℤ) (o : Option Race) → slice_get active p.0 ≡ Some f → slice_get active p.1 ≡ Some s
     → f' ≡ f → s' ≡ s → o ≡ race_in plain p.0 p.1 (order parts [] store (combination f' ∷ combination s' ∷ [])).runs
     → option_and_then (λ r. Some (race r (combination f) (combination s))) o ≡ between_plain parts store (map combination active) p
 found parts store active p f s f' s' o first second first_is second_is is =

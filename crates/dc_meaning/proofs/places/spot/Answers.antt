@@ -3,7 +3,7 @@ use Rattle.std.specs.Int.{w64}
 use Rattle.std.proofs.lemmas.Int.{to_z-of_z}
 use Rattle.dc_meaning.specs.Places.{element_at}
 use Rattle.dc_meaning.specs.declared.spot.Spot.{Spot}
-use Rattle.dc_meaning.specs.Standing.{entity_of, place_of_spot, subscripts_in}
+use Rattle.dc_meaning.specs.WalkScope.{entity_of, place_of_spot, subscripts_in}
 use Rattle.dc_meaning.proofs.Walking.{walks-as, told-as, told-bad}
 use Rattle.dc_meaning.proofs.places.spot.Goals as goal
 

@@ -1,7 +1,7 @@
 use Rattle.std.specs.Prelude.{◌-◌, [], List, ℤ, Result}
 use Rattle.dc_meaning.specs.declared.stop.Stop.{Stop}
 use Rattle.dc_meaning.specs.Showing.{shown}
-use Rattle.dc_meaning.specs.Standing.{own_of}
+use Rattle.dc_meaning.specs.WalkScope.{own_of}
 use Rattle.dc_meaning.specs.Walking.{View, Walks}
 use Rattle.dc_meaning.proofs.showing.elements.Given as goal
 

@@ -1,6 +1,6 @@
 use Rattle.std.proofs.Common.{sym, ap, ◌∙◌}
 use Rattle.dc_tree.specs.Entities.{main_scope}
-use Rattle.dc_meaning.specs.Standing.{entity_of}
+use Rattle.dc_meaning.specs.WalkScope.{entity_of}
 use Rattle.dc_meaning.proofs.Shown.{scalar-walks, vector-walks}
 use Rattle.dc_meaning.proofs.showing.values_of.Goals as goal
 

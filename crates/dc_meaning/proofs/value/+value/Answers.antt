@@ -6,7 +6,7 @@ use Rattle.dc_tree.specs.declared.expr.Expr.{the_lemmas}
 use Rattle.dc_int.specs.declared.kind.Kind.{Kind}
 use Rattle.dc_int.specs.Sorts as sorts
 use Rattle.dc_tree.specs.Operating.{joined_by}
-use Rattle.dc_meaning.specs.Standing.{scope_of}
+use Rattle.dc_meaning.specs.WalkScope.{scope_of}
 use Rattle.dc_meaning.proofs.Walking.{handed}
 use Rattle.dc_meaning.proofs.Valuing.{name-walks, first-found, none-found, first-small, none-small, refer-walks, refer-bad, left-bad, right-bad, binary-walks}
 use Rattle.dc_meaning.proofs.value.+value.Goals as goal
