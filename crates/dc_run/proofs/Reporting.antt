@@ -11,8 +11,8 @@ use Rattle.dc_int.specs.Store.{Store, value_at, put_at, bounds_of}
 use Rattle.dc_code.specs.declared.verdict.Verdict as answers
 use Rattle.dc_code.specs.Computation.{give, fail, read, define, undefine, contribute, ask, pause}
 use Rattle.dc_code.specs.EveryOrder.{SaysOfOrders, TellsHeader, TellsOrders}
-use Rattle.dc_code.specs.Inner.{judging, parts, greatest_depth}
-use Rattle.dc_code.specs.Loops.{Parts}
+use Rattle.dc_code.specs.Inner.{judging, nested_loop, greatest_depth}
+use Rattle.dc_code.specs.Loops.{Loop}
 use Rattle.dc_code.specs.Troubles.{Trouble, raced, inside, Computing, Slots, Event, write_line, take_value, take_elements, end_reading, enter_loop, stop}
 use Rattle.dc_code.specs.Verdicts.{Verdict, go_on, at_header, in_iteration, race, side, trouble_in}
 use Rattle.dc_code.specs.Visits.{Visited, visited}
@@ -154,12 +154,12 @@ abbrev Holds : List Symbol → Source → ℕ → Visit → Type 0
 Holds symbols source turns visit = HoldsAt (loop_at symbols source turns visit) visit
 
 -- what is said of a loop, at its visit
-said-at : (loop : Parts) (number : ℕ) (slots : Slots) (turns : ℕ) (store : Store) → SaysOfOrders loop turns store → HoldsAt loop (visit_by number slots turns store (visited judging loop turns store))
+said-at : (loop : Loop) (number : ℕ) (slots : Slots) (turns : ℕ) (store : Store) → SaysOfOrders loop turns store → HoldsAt loop (visit_by number slots turns store (visited judging loop turns store))
 said-at loop number slots turns store says = by says.says
   where
     by : TellsHeader loop turns store ⊎ TellsOrders loop turns store → HoldsAt loop (visit_by number slots turns store (visited judging loop turns store))
     by (inl header) = in_header header.trouble header.met header.is
-    by (inr orders) = in_orders orders.opening orders.opens orders.holds
+    by (inr orders) = in_orders orders.given orders.opens orders.holds
 
 run-reports : (symbols : List Symbol) (source : Source) (turns : ℕ) (given : List ℕ) → is_small_program symbols source ≡ true
     → Reports symbols source turns given (run judging symbols source turns given).output (run judging symbols source turns given).ending
@@ -169,7 +169,7 @@ run-reports symbols source turns given small =
     let at : Standing = record { store = first_store symbols; input = given; used = 0 } in
     let judged = good-play looping names (IsJudged symbols source turns) (λ number slots left store. record { said = refl; left = refl }) at (main_computation symbols source turns) in
     let says = good-play looping names (Holds symbols source turns)
-    (λ number slots left store. said-at (parts judging (program_forms symbols source turns) greatest_depth number slots) number slots left store (loop-says symbols source small turns number slots left store)) at (main_computation symbols source turns) in
+    (λ number slots left store. said-at (nested_loop judging (program_forms symbols source turns) greatest_depth number slots) number slots left store (loop-says symbols source small turns number slots left store)) at (main_computation symbols source turns) in
     record { visits = (run judging symbols source turns given).visits; is = refl; ends = judged.ends; judged = judged.each; orders = says.each }
 
 -- What the code answers, where it is what the run of the definition writes and how that ends.

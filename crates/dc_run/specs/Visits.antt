@@ -3,8 +3,8 @@
 use Rattle.std.specs.Prelude.{◌≡◌, ℕ, List, [], ◌∷◌, ◌++◌, All, Some, ◌⊎◌}
 use Rattle.dc_code.specs.Computation.{done, bad, over}
 use Rattle.dc_code.specs.EveryOrder.{HoldsInOrders}
-use Rattle.dc_code.specs.Inner.{judging, parts, greatest_depth}
-use Rattle.dc_code.specs.Loops.{Parts, Opened, opened}
+use Rattle.dc_code.specs.Inner.{judging, nested_loop, greatest_depth}
+use Rattle.dc_code.specs.Loops.{Loop, HeaderResult, header_of}
 use Rattle.dc_code.specs.Troubles.{Trouble}
 use Rattle.dc_code.specs.Verdicts.{go_on, at_header, trouble_in}
 use Rattle.dc_code.specs.Visits.{visited}
@@ -16,8 +16,8 @@ use Rattle.dc_run.specs.ReportLine.{Ending, stopped, trouble_text, report_line}
 use Rattle.dc_run.specs.ReportLine as endings
 
 -- The loop of a visit, with those inside it.
-abbrev pub loop_at : List Symbol → Source → ℕ → Visit → Parts
-loop_at symbols source turns visit = parts judging (program_forms symbols source turns) greatest_depth visit.loop visit.inside
+abbrev pub loop_at : List Symbol → Source → ℕ → Visit → Loop
+loop_at symbols source turns visit = nested_loop judging (program_forms symbols source turns) greatest_depth visit.loop visit.inside
 
 -- What is said at a visit is the verdict on its loop over the opening store, and the store after it is the one
 -- that this loop leaves.
@@ -28,10 +28,10 @@ pub record IsJudged (symbols : List Symbol) (source : Source) (turns : ℕ) (vis
 -- What is said at a visit holds. Its loop's header meets the trouble that is told, which belongs to no iteration; or
 -- the header gives iterations, and what is told holds in every order of these: where the loop goes on, each order
 -- ends with the store after the visit.
-pub data HoldsAt (loop : Parts) (visit : Visit) : Type 0 where
-  in_header : (trouble : Trouble) → (over visit.opening (opened loop.form visit.turns)).reached ≡ bad trouble → visit.verdict ≡ at_header trouble → HoldsAt loop visit
+pub data HoldsAt (loop : Loop) (visit : Visit) : Type 0 where
+  in_header : (trouble : Trouble) → (over visit.opening (header_of loop.form visit.turns)).reached ≡ bad trouble → visit.verdict ≡ at_header trouble → HoldsAt loop visit
   in_orders
-      : (opening : Opened) → (over visit.opening (opened loop.form visit.turns)).reached ≡ done opening
+      : (opening : HeaderResult) → (over visit.opening (header_of loop.form visit.turns)).reached ≡ done opening
       → HoldsInOrders loop visit.opening opening.iterations visit.after visit.verdict → HoldsAt loop visit
 
 abbrev pub WentOn : Visit → Type 0
