@@ -4,11 +4,12 @@ use Rattle.std.specs.Borrow.{Bor}
 use Rattle.std.specs.List.{list_any}
 use Rattle.dc_tree.specs.declared.symbols.Symbol.{Symbol}
 use Rattle.dc_tree.specs.Entities.{Scope, entity, main_scope}
+use Rattle.dc_tree.specs.declared.stmt.Entity.{Entity}
 use Rattle.dc_tree.specs.declared.stmt.Local.{Local}
 use Rattle.dc_tree.specs.Blocks.{Item, Items, plain}
 use Rattle.dc_tree.specs.SmallPrograms.{with_index, is_small_assignment, is_outside_scalar, is_vector, is_small_ranging, is_small_block}
 use Rattle.dc_tree.specs.Syntax.{Tree, name}
-use Rattle.dc_tree.specs.Statements.{Name, Dimension, Declared, Ranging}
+use Rattle.dc_tree.specs.Statements.{Name, Dimension, Declared, declared_of, Ranging}
 use Rattle.dc_form.specs.Form.{symbol_of, is_short}
 use Rattle.dc_form.specs.declared.names.Use.{Use}
 
@@ -47,6 +48,16 @@ is_outside_use other = false
 abbrev pub is_vector_use : Use → Bool
 is_vector_use Use.Vector = true
 is_vector_use other = false
+
+-- The same scopes by the entities of the code.
+abbrev pub main_scope_of : List Entity → Scope
+main_scope_of entities = scope_at (map declared_of entities) None
+
+abbrev pub loop_scope_of : List Entity → Name → Scope
+loop_scope_of entities index = scope_at (map declared_of entities) (Some index)
+
+abbrev pub scope_in : List Entity → Option (Bor (List ℕ)) → Scope
+scope_in entities index = scope_at (map declared_of entities) (index_seen index)
 
 -- ---- a statement of a loop by itself
 

@@ -5,7 +5,7 @@ ghost use Rattle.dc_tree.specs.Blocks.{item, items, items_from};
 ghost use Rattle.dc_tree.specs.SmallPrograms as small;
 ghost use Rattle.dc_tree.specs.Statements.{act, print, declared_of, target_of, statement, index_ranging};
 ghost use Rattle.dc_tree.specs.Syntax.{tree};
-ghost use Rattle.dc_form.specs.Uses.{scope_at, index_seen, is_small_inner};
+ghost use Rattle.dc_form.specs.Uses.{is_small_inner, scope_in, main_scope_of, loop_scope_of};
 ghost use Rattle.dc_form.specs.Uses as uses;
 
 use crate::names::{is_outside_scalar, is_vector};
@@ -22,7 +22,9 @@ fn is_small_target(
     whole_arrays: bool,
     target: &Target,
 ) -> bool
-    ensures { result ≡ small.is_small_target (scope_at (map declared_of entities.now) (index_seen index.entry)) whole_arrays (target_of target.now) }
+    ensures { result
+        ≡ small.is_small_target (scope_in entities.now index.entry) whole_arrays
+        (target_of target.now) }
 {
     let name = target.name.as_bytes();
     match &target.subscripts {
@@ -46,7 +48,9 @@ fn is_small_assignment(
     whole_arrays: bool,
     stmt: &Stmt,
 ) -> bool
-    ensures { result ≡ small.is_small_assignment (scope_at (map declared_of entities.now) (index_seen index.entry)) whole_arrays (statement stmt.now) }
+    ensures { result
+        ≡ small.is_small_assignment (scope_in entities.now index.entry) whole_arrays
+        (statement stmt.now) }
 {
     match stmt {
         Stmt::Act(Action::Assign { left, right }) => {
@@ -90,7 +94,7 @@ fn is_small_assignment(
 /// Whether an item of output is a variable.
 #[tactic(auto, using(dc_tree::proofs::Views::expression_views))]
 fn is_variable(entities: &[Entity], value: &Expr) -> bool
-    ensures { result ≡ uses.is_variable (scope_at (map declared_of entities.now) None) (tree value.now) }
+    ensures { result ≡ uses.is_variable (main_scope_of entities.now) (tree value.now) }
 {
     match value {
         Expr::Name(name) => {
@@ -109,7 +113,9 @@ fn is_variable(entities: &[Entity], value: &Expr) -> bool
 
 #[tactic(auto, using(crate::proofs::Blocks::output_of))]
 fn is_one_variable(entities: &[Entity], values: &[Expr]) -> bool
-    ensures { result ≡ small.is_small_output (scope_at (map declared_of entities.now) None) (act (print false (map tree values.now))) }
+    ensures { result
+        ≡ small.is_small_output (main_scope_of entities.now)
+        (act (print false (map tree values.now))) }
 {
     match values {
         [value] => is_variable(entities, value),
@@ -119,7 +125,7 @@ fn is_one_variable(entities: &[Entity], values: &[Expr]) -> bool
 }
 
 fn is_small_output(entities: &[Entity], stmt: &Stmt) -> bool
-    ensures { result ≡ small.is_small_output (scope_at (map declared_of entities.now) None) (statement stmt.now) }
+    ensures { result ≡ small.is_small_output (main_scope_of entities.now) (statement stmt.now) }
 {
     match stmt {
         Stmt::Act(
@@ -192,7 +198,8 @@ fn is_limit(limit: &Expr) -> bool
 }
 
 fn is_small_ranging(entities: &[Entity], index: &Index) -> bool
-    ensures { result ≡ small.is_small_ranging (scope_at (map declared_of entities.now) None) (index_ranging index.now) }
+    ensures { result
+        ≡ small.is_small_ranging (main_scope_of entities.now) (index_ranging index.now) }
 {
     match &index.step {
         None => {
@@ -205,7 +212,7 @@ fn is_small_ranging(entities: &[Entity], index: &Index) -> bool
 
 #[tactic(auto, using(dc_tree::proofs::Views::statement_views))]
 fn is_small_inner(entities: &[Entity], index: &DcText, node: &Node) -> bool
-    ensures { result ≡ is_small_inner (scope_at (map declared_of entities.now) (Some index.now)) (item node.now) }
+    ensures { result ≡ is_small_inner (loop_scope_of entities.now index.now) (item node.now) }
 {
     match node {
         Node::Plain(lined) => {
@@ -219,7 +226,9 @@ fn is_small_inner(entities: &[Entity], index: &DcText, node: &Node) -> bool
 
 #[tactic(auto, using(crate::proofs::Blocks::small_first, std::proofs::lemmas::List::drop_more))]
 fn is_small_block(entities: &[Entity], index: &DcText, nodes: &[Node]) -> bool
-    ensures { result ≡ small.is_small_block (scope_at (map declared_of entities.now) (Some index.now)) (items_from (map item nodes.now)) }
+    ensures { result
+        ≡ small.is_small_block (loop_scope_of entities.now index.now)
+        (items_from (map item nodes.now)) }
 {
     for node in nodes {
         if !is_small_inner(entities, index, node) {
@@ -232,7 +241,9 @@ fn is_small_block(entities: &[Entity], index: &DcText, nodes: &[Node]) -> bool
 /// Whether a loop over these indexes, with this locality and no more in its header, can be run.
 #[tactic(auto, using(dc_tree::proofs::Views::statement_views))]
 fn is_plain_loop(entities: &[Entity], indexes: &[Index], locality: &[Local], body: &Block) -> bool
-    ensures { result ≡ uses.is_plain_loop (map declared_of entities.now) (map index_ranging indexes.now) locality.now (items body.now) }
+    ensures { result
+        ≡ uses.is_plain_loop (map declared_of entities.now) (map index_ranging indexes.now)
+        locality.now (items body.now) }
 {
     match indexes {
         [index] => match locality {
@@ -249,7 +260,8 @@ fn is_plain_loop(entities: &[Entity], indexes: &[Index], locality: &[Local], bod
 
 #[tactic(auto, using(crate::proofs::Blocks::loop_of))]
 fn is_small_loop(entities: &[Entity], head: &Stmt, body: &Block) -> bool
-    ensures { result ≡ small.is_small_loop (scope_at (map declared_of entities.now) None) (statement head.now) (items body.now) }
+    ensures { result
+        ≡ small.is_small_loop (main_scope_of entities.now) (statement head.now) (items body.now) }
 {
     match head {
         Stmt::Concurrent {
@@ -287,7 +299,7 @@ fn is_small_loop(entities: &[Entity], head: &Stmt, body: &Block) -> bool
 
 #[tactic(auto, using(dc_tree::proofs::Views::statement_views))]
 fn is_small_item(entities: &[Entity], node: &Node) -> bool
-    ensures { result ≡ small.is_small_item (scope_at (map declared_of entities.now) None) (item node.now) }
+    ensures { result ≡ small.is_small_item (main_scope_of entities.now) (item node.now) }
 {
     match node {
         Node::Plain(lined) => {
@@ -303,7 +315,8 @@ fn is_small_item(entities: &[Entity], node: &Node) -> bool
 /// Whether all statements of a program can be run, with these declared names.
 #[tactic(auto, using(std::proofs::lemmas::List::drop_more))]
 pub(crate) fn are_small_items(entities: &[Entity], nodes: &[Node]) -> bool
-    ensures { result ≡ small.are_small_items (scope_at (map declared_of entities.now) None) (items_from (map item nodes.now)) }
+    ensures { result
+        ≡ small.are_small_items (main_scope_of entities.now) (items_from (map item nodes.now)) }
 {
     for node in nodes {
         if !is_small_item(entities, node) {

@@ -5,7 +5,7 @@ ghost use Rattle.dc_tree.specs.Entities.{entity};
 ghost use Rattle.dc_tree.specs.SmallPrograms as small;
 ghost use Rattle.dc_tree.specs.Statements.{dimension_of, declared_of};
 ghost use Rattle.std.specs.Prelude.{option_map};
-ghost use Rattle.dc_form.specs.Uses.{scope_at, index_seen, use_by, use_of, use_at};
+ghost use Rattle.dc_form.specs.Uses.{use_by, use_of, use_at, index_seen, scope_in};
 
 use dc_text::DcList;
 use dc_tree::{Bound, Entity};
@@ -56,7 +56,7 @@ fn use_at(entities: &[Entity], index: Option<&[u8]>, name: &[u8]) -> Use
 /// Whether a name is a scalar, or the index of the loop around.
 #[tactic(auto, using(crate::proofs::Scopes::scalar_use))]
 pub(crate) fn is_scalar(entities: &[Entity], index: Option<&[u8]>, name: &[u8]) -> bool
-    ensures { result ≡ small.is_scalar (entity (scope_at (map declared_of entities.now) (index_seen index.entry)) name.now) }
+    ensures { result ≡ small.is_scalar (entity (scope_in entities.now index.entry) name.now) }
 {
     match use_at(entities, index, name) {
         Use::Index | Use::Scalar => true,
@@ -67,7 +67,8 @@ pub(crate) fn is_scalar(entities: &[Entity], index: Option<&[u8]>, name: &[u8]) 
 /// Whether a name is a scalar that is no index.
 #[tactic(auto, using(crate::proofs::Scopes::outside_use))]
 pub(crate) fn is_outside_scalar(entities: &[Entity], index: Option<&[u8]>, name: &[u8]) -> bool
-    ensures { result ≡ small.is_outside_scalar (entity (scope_at (map declared_of entities.now) (index_seen index.entry)) name.now) }
+    ensures { result
+        ≡ small.is_outside_scalar (entity (scope_in entities.now index.entry) name.now) }
 {
     match use_at(entities, index, name) {
         Use::Scalar => true,
@@ -78,7 +79,7 @@ pub(crate) fn is_outside_scalar(entities: &[Entity], index: Option<&[u8]>, name:
 /// Whether a name is an array.
 #[tactic(auto, using(crate::proofs::Scopes::vector_use))]
 pub(crate) fn is_vector(entities: &[Entity], index: Option<&[u8]>, name: &[u8]) -> bool
-    ensures { result ≡ small.is_vector (entity (scope_at (map declared_of entities.now) (index_seen index.entry)) name.now) }
+    ensures { result ≡ small.is_vector (entity (scope_in entities.now index.entry) name.now) }
 {
     match use_at(entities, index, name) {
         Use::Vector => true,

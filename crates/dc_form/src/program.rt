@@ -63,7 +63,8 @@ fn has_no_procedures(program: &Program) -> bool
 #[tactic(auto, using(dc_tree::proofs::Views::statement_views))]
 fn is_small_program(program: &Program) -> bool
     requires { IsTrue (is_frame (source_of program.now)) }
-    ensures { result ≡ small.is_small_program (symbols_of (source_of program.now)) (source_of program.now) }
+    ensures { result
+        ≡ small.is_small_program (symbols_of (source_of program.now)) (source_of program.now) }
 {
     let entities = declared_in(program.front.as_slice());
     are_small_symbols(entities)

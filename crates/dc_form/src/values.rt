@@ -5,7 +5,7 @@ ghost use Rattle.std.specs.List.{list_all};
 ghost use Rattle.dc_tree.specs.SmallPrograms as small;
 ghost use Rattle.dc_tree.specs.Statements.{declared_of};
 ghost use Rattle.dc_tree.specs.Syntax.{tree, arg_tree, args_from};
-ghost use Rattle.dc_form.specs.Uses.{scope_at, index_seen};
+ghost use Rattle.dc_form.specs.Uses.{scope_in};
 
 use crate::names::{is_scalar, is_vector};
 use dc_tree::{Arg, Entity, Expr, Mark, Suffix};
@@ -43,7 +43,8 @@ pub(crate) fn is_small_subscript(
     index: Option<&[u8]>,
     subscript: &Expr,
 ) -> bool
-    ensures { result ≡ small.is_small_subscript (scope_at (map declared_of entities.now) (index_seen index.entry)) (tree subscript.now) }
+    ensures { result
+        ≡ small.is_small_subscript (scope_in entities.now index.entry) (tree subscript.now) }
 {
     match subscript {
         Expr::Number {
@@ -74,7 +75,9 @@ pub(crate) fn is_small_subscript(
 
 #[tactic(auto, using(dc_tree::proofs::Views::expression_views))]
 fn is_one_subscript(entities: &[Entity], index: Option<&[u8]>, args: &[Arg]) -> bool
-    ensures { result ≡ small.is_one_subscript (scope_at (map declared_of entities.now) (index_seen index.entry)) (args_from (map arg_tree args.now)) }
+    ensures { result
+        ≡ small.is_one_subscript (scope_in entities.now index.entry)
+        (args_from (map arg_tree args.now)) }
 {
     match args {
         [arg] => !arg.keyed && is_small_subscript(entities, index, &arg.value),
@@ -85,7 +88,7 @@ fn is_one_subscript(entities: &[Entity], index: Option<&[u8]>, args: &[Arg]) -> 
 
 #[tactic(auto, using(dc_tree::proofs::Views::expression_views))]
 pub(crate) fn is_small(entities: &[Entity], index: Option<&[u8]>, value: &Expr) -> bool
-    ensures { result ≡ small.is_small (scope_at (map declared_of entities.now) (index_seen index.entry)) (tree value.now) }
+    ensures { result ≡ small.is_small (scope_in entities.now index.entry) (tree value.now) }
 {
     match value {
         Expr::Number {
