@@ -21,10 +21,12 @@ pub fn run_sure(
 ) -> u8
     ensures answers { let asked = reading words.now sure_told no_faults files.old files.new in
         Answers asked (sure_change out.old out.new) (sure_change log.old log.new) result }
-    ensures unchanged { KeepsFiles words.now sure_told no_faults files.old files.new × (input.new ≡ input.old) }
+    ensures unchanged { KeepsFiles words.now sure_told no_faults files.old files.new
+        × (input.new ≡ input.old) }
     ensures reads { ¬ (result ≡ 6) }
     ensures whole { HasSureRoom words.now files.old out.old log.old
-        → WritesSurely words.now files.old (sure_change out.old out.new) (sure_change log.old log.new) result }
+        → WritesSurely words.now files.old (sure_change out.old out.new)
+        (sure_change log.old log.new) result }
 {
     docon(alloc, words, files, input, out, log, &OpenGate)
 }

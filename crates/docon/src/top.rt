@@ -67,7 +67,8 @@ pub fn docon<F: Files, S: Source, W: Sink, L: Sink, G: Gate + Sync>(
         let to_out = change W.taken W.room W.faults out.old out.new in
         let to_log = change L.taken L.room L.faults log.old log.new in
         Answers asked to_out to_log result }
-    ensures unchanged { KeepsFiles words.now F.told F.faults files.old files.new × (input.new ≡ input.old) }
+    ensures unchanged { KeepsFiles words.now F.told F.faults files.old files.new
+        × (input.new ≡ input.old) }
 {
     match report(alloc, words, files, gate) {
         Ok(report) => write_report(&report, out, log),
