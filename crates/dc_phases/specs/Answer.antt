@@ -47,7 +47,3 @@ IsOneAnswer = (text : List ℕ) (source : Source) (refusal : Refusal) → Spells
 -- A text has one first refusal at most.
 abbrev pub IsOneRefusal : Type 0
 IsOneRefusal = (text : List ℕ) (a b : Refusal) → IsFirstRefusal text a → IsFirstRefusal text b → a ≡ b
-
--- A text spells a program or has a first refusal.
-abbrev pub IsSomeAnswer : Type 0
-IsSomeAnswer = (text : List ℕ) → ((program : Program) × Spells text (source_of program)) ⊎ ((refusal : Refusal) × IsFirstRefusal text refusal)
