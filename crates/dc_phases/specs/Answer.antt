@@ -1,5 +1,5 @@
 -- What a source spells, the first rule that it breaks, and what the phases answer.
-use Rattle.std.specs.Prelude.{◌≡◌, ◌<◌, ◌⊎◌, ℕ, List, Result, Ok, Err}
+use Rattle.std.specs.Prelude.{◌≡◌, ◌<◌, ℕ, List, Result, Ok, Err}
 use Rattle.dc_tree.specs.declared.fail.Fail.{Fail}
 use Rattle.dc_tree.specs.declared.fail.Refusal.{Refusal}
 use Rattle.dc_tree.specs.declared.program.Program.{Program}
