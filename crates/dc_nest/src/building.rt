@@ -1,6 +1,6 @@
 //! The tree of a program, read from its statements by recursive descent.
 
-ghost use Rattle.std.specs.Prelude.{◌≡◌, ◌<◌, ◌≤◌, ◌↔◌, [], ◌∷◌, ◌++◌, map, length, None, Some, IsTrue, IfOk, OnOk};
+ghost use Rattle.std.specs.Prelude.{◌≡◌, ◌<◌, ◌≤◌, ◌↔◌, [], ◌∷◌, ◌++◌, map, length, None, Some, Ok, IsTrue, IfOk, OnOk};
 ghost use Rattle.dc_tree.specs.Blocks.{line_of, item, items, part_items, subprogram_of, source_of};
 ghost use Rattle.dc_tree.specs.Listing.{contains_lines};
 ghost use Rattle.dc_nest.specs.declared.form.Form.{Form};
@@ -58,19 +58,31 @@ fn is_next(rest: &Stack<Lined>, wanted: Form) -> bool
     }
 }
 
+/// Both values, if the second is there. A first without a second is dropped.
+fn both<A: Drop, B>(first: A, second: Result<B, NoMemory>) -> Result<(A, B), NoMemory>
+    ensures { IfOk result (λ pair. (pair.0 ≡ first) × (second ≡ Ok pair.1)) }
+{
+    match second {
+        Ok(second) => Ok((first, second)),
+        Err(NoMemory) => Err(NoMemory),
+    }
+}
+
 #[cycle(building)]
+#[tactic(none)]
 fn part(alloc: Global, rest: &mut Stack<Lined>) -> Result<Part, NoMemory>
     requires { PartAhead (map line_of rest.old) }
     ensures reads { IfOk result (λ part. ReadsPart (part_items part) (map line_of rest.old) (map line_of rest.new)) }
     ensures shorter { OnOk result (length rest.new < length rest.old) }
 {
     let head = take(rest);
-    let body = block(alloc, rest)?;
+    let (head, body) = both(head, block(alloc, rest))?;
     Ok(Part { head, body })
 }
 
 /// With all further arms of one kind.
 #[cycle(building)]
+#[tactic(none)]
 fn with_arms(
     alloc: Global,
     rest: &mut Stack<Lined>,
@@ -89,6 +101,7 @@ fn with_arms(
 }
 
 #[cycle(building)]
+#[tactic(none)]
 fn branch(alloc: Global, rest: &mut Stack<Lined>) -> Result<Node, NoMemory>
     requires ahead { ItemAhead (map line_of rest.old) }
     requires begins { next_form (map line_of rest.old) ≡ Some Form.BeginsIf }
@@ -103,6 +116,7 @@ fn branch(alloc: Global, rest: &mut Stack<Lined>) -> Result<Node, NoMemory>
 }
 
 #[cycle(building)]
+#[tactic(none)]
 fn selection(alloc: Global, rest: &mut Stack<Lined>) -> Result<Node, NoMemory>
     requires ahead { ItemAhead (map line_of rest.old) }
     requires begins { next_form (map line_of rest.old) ≡ Some Form.BeginsSelect }
@@ -110,12 +124,13 @@ fn selection(alloc: Global, rest: &mut Stack<Lined>) -> Result<Node, NoMemory>
     ensures shorter { OnOk result (length rest.new < length rest.old) }
 {
     let head = take(rest);
-    let arms = with_arms(alloc, rest, Form::BeginsCase, DcList::new(alloc))?;
+    let (head, arms) = both(head, with_arms(alloc, rest, Form::BeginsCase, DcList::new(alloc)))?;
     let close = take(rest);
     Ok(Node::Select { head, arms, close })
 }
 
 #[cycle(building)]
+#[tactic(none)]
 fn looping(alloc: Global, rest: &mut Stack<Lined>) -> Result<Node, NoMemory>
     requires ahead { ItemAhead (map line_of rest.old) }
     requires begins { next_form (map line_of rest.old) ≡ Some Form.BeginsLoop }
@@ -128,6 +143,7 @@ fn looping(alloc: Global, rest: &mut Stack<Lined>) -> Result<Node, NoMemory>
 }
 
 #[cycle(building)]
+#[tactic(none)]
 fn node(alloc: Global, rest: &mut Stack<Lined>) -> Result<Node, NoMemory>
     requires { ItemAhead (map line_of rest.old) }
     ensures reads { IfOk result (λ node. ReadsItem (item node) (map line_of rest.old) (map line_of rest.new)) }
@@ -142,6 +158,7 @@ fn node(alloc: Global, rest: &mut Stack<Lined>) -> Result<Node, NoMemory>
 }
 
 #[cycle(building)]
+#[tactic(none)]
 fn block(alloc: Global, rest: &mut Stack<Lined>) -> Result<Block, NoMemory>
     requires { BlockAhead (map line_of rest.old) }
     ensures reads { IfOk result (λ body. ReadsBlock (items body) (map line_of rest.old) (map line_of rest.new)) }
@@ -165,16 +182,18 @@ fn front(alloc: Global, rest: &mut Stack<Lined>) -> Result<DcList<Lined>, NoMemo
     Ok(front)
 }
 
+#[tactic(none)]
 fn unit(alloc: Global, rest: &mut Stack<Lined>) -> Result<OpenUnit, NoMemory>
     requires { UnitAhead (map line_of rest.old) }
     ensures { IfOk result (λ unit. ReadsUnit (line_of unit.head) (map line_of unit.front) (items unit.body) (map line_of rest.old) (map line_of rest.new)) }
 {
     let head = take(rest);
-    let front = front(alloc, rest)?;
-    let body = block(alloc, rest)?;
+    let (head, front) = both(head, front(alloc, rest))?;
+    let ((head, front), body) = both((head, front), block(alloc, rest))?;
     Ok(OpenUnit { head, front, body })
 }
 
+#[tactic(none)]
 fn procedure(alloc: Global, rest: &mut Stack<Lined>) -> Result<Procedure, NoMemory>
     requires { ProcedureAhead (map line_of rest.old) }
     ensures { IfOk result (λ procedure. ReadsProcedure (subprogram_of procedure) (map line_of rest.old) (map line_of rest.new)) }
@@ -189,6 +208,7 @@ fn procedure(alloc: Global, rest: &mut Stack<Lined>) -> Result<Procedure, NoMemo
     })
 }
 
+#[tactic(none)]
 fn procedures(alloc: Global, rest: &mut Stack<Lined>) -> Result<DcList<Procedure>, NoMemory>
     requires { ProceduresAhead (map line_of rest.old) }
     ensures { IfOk result (λ made. ReadsProcedures (map subprogram_of made) (map line_of rest.old) (map line_of rest.new)) }
@@ -213,13 +233,15 @@ fn contains(rest: &mut Stack<Lined>) -> Option<u32>
 }
 
 /// The tree of statements that are those of a program.
+#[tactic(none)]
 pub(crate) fn program(alloc: Global, rest: &mut Stack<Lined>) -> Result<Program, NoMemory>
     requires { ProgramAhead (map line_of rest.old) }
     ensures { IfOk result (λ program. ReadsProgram (source_of program) (map line_of rest.old)) }
 {
-    let OpenUnit { head, front, body } = unit(alloc, rest)?;
+    let unit = unit(alloc, rest)?;
     let contains = contains(rest);
-    let procedures = procedures(alloc, rest)?;
+    let (unit, procedures) = both(unit, procedures(alloc, rest))?;
+    let OpenUnit { head, front, body } = unit;
     let close = take(rest);
     Ok(Program {
         head,

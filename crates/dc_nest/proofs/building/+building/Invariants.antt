@@ -25,22 +25,22 @@ decreases-node l = 4 * length l.rest.now + 2
 abbrev pub decreases-block : goal.decreases-block
 decreases-block l = 4 * length l.rest.now + 3
 
-abbrev pub invariant-with_arms-loop-rest : goal.invariant-with_arms-loop-rest
-invariant-with_arms-loop-rest l = record {
+abbrev pub invariant-with_arms-loop-alloc : goal.invariant-with_arms-loop-alloc
+invariant-with_arms-loop-alloc l = record {
   has : HasArms l.wanted (map part_items l.fn.arms) (map part_items l.arms) (map line_of l.fn.rest) (map line_of l.rest);
   ahead : ArmsAhead l.wanted (map line_of l.rest);
   within : length l.rest ≤ length l.fn.rest;
 }
 
-abbrev pub decreases-with_arms-loop-rest : goal.decreases-with_arms-loop-rest
-decreases-with_arms-loop-rest l = length l.rest
+abbrev pub decreases-with_arms-loop-alloc : goal.decreases-with_arms-loop-alloc
+decreases-with_arms-loop-alloc l = length l.rest
 
-abbrev pub invariant-block-loop-rest : goal.invariant-block-loop-rest
-invariant-block-loop-rest l = record {
+abbrev pub invariant-block-loop-alloc : goal.invariant-block-loop-alloc
+invariant-block-loop-alloc l = record {
   read : HasRead l.nodes (map line_of l.fn.rest) (map line_of l.rest);
   ahead : BlockAhead (map line_of l.rest);
   within : length l.rest ≤ length l.fn.rest;
 }
 
-abbrev pub decreases-block-loop-rest : goal.decreases-block-loop-rest
-decreases-block-loop-rest l = length l.rest
+abbrev pub decreases-block-loop-alloc : goal.decreases-block-loop-alloc
+decreases-block-loop-alloc l = length l.rest

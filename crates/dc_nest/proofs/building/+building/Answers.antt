@@ -1,0 +1,58 @@
+use Rattle.std.proofs.Common.{rules, ◌≡◌, ◌∷◌, map, sym, ap, subst, ◌∙◌, arith}
+use Rattle.std.specs.Prelude.{IfOk}
+use Rattle.std.proofs.lemmas.Bool.{false≢true}
+use Rattle.dc_tree.specs.Blocks.{line_of, items, part_items}
+use Rattle.dc_nest.specs.declared.form.Form.{Form}
+use Rattle.dc_nest.specs.Ahead.{ReadsBlock}
+use Rattle.dc_nest.proofs.Reading.{next-some, part-some, part-block, part-read, block-item, block-rest, HasRead, none-read, one-read, block-read, loop-part, arms-part, arms-rest, HasArms, no-arms, one-arm, arms-read, branch-part, branch-arms, select-arms}
+use Rattle.dc_nest.proofs.building.+building.Goals as goal
+
+pub block-loop-alloc-init : goal.block-loop-alloc-init
+block-loop-alloc-init t c =
+    let start = map line_of c.args.rest.now in
+    record { read = subst (λ nodes. HasRead nodes start start) (sym c.new-nodes.ensures) (none-read start); ahead = c.requires; within = omega arith }
+
+pub block-node-requires : goal.block-node-requires
+block-node-requires t c =
+    (search rules, block-item (map line_of c.loop-alloc.rest) c.loop-alloc.invariant.ahead (sym c.is_node_next.ensures ∙ c.loop-alloc-test.true))
+
+pub block-loop-alloc-preserved : goal.block-loop-alloc-preserved
+block-loop-alloc-preserved t c =
+    let start = map line_of c.args.rest.now in
+    let now = map line_of c.loop-alloc.rest in
+    let left = map line_of c.node.new.rest in
+    let next = sym c.is_node_next.ensures ∙ c.loop-alloc-test.true in
+    record {
+      read =
+          subst (λ nodes. HasRead nodes start left) (sym c.in_ok-push.ensures.ok)
+          (one-read c.loop-alloc.nodes c.in_ok-node.field-0 start now left c.loop-alloc.invariant.read c.in_ok-node.ensures.reads);
+      ahead = block-rest now left _ c.loop-alloc.invariant.ahead next c.in_ok-node.ensures.reads;
+      within = search rules;
+    }
+
+pub block-returns-clause-reads : goal.block-returns-clause-reads
+block-returns-clause-reads t c =
+    block-read c.loop-alloc.nodes (map line_of c.args.rest.now) (map line_of c.loop-alloc.rest) c.loop-alloc.invariant.read (sym c.is_node_next.ensures ∙ c.loop-alloc-test.false)
+
+pub branch-part-requires : goal.branch-part-requires
+branch-part-requires t c = (search rules, branch-part (map line_of c.args.rest.now) c.requires.ahead c.requires.begins)
+
+pub branch-with_arms-requires : goal.branch-with_arms-requires
+branch-with_arms-requires t c =
+    (search rules, branch-arms (map line_of c.args.rest.now) (map line_of c.part.new.rest) _ c.requires.ahead c.requires.begins c.in_ok-part.ensures.reads)
+
+pub looping-part-requires : goal.looping-part-requires
+looping-part-requires t c = (search rules, loop-part (map line_of c.args.rest.now) c.requires.ahead c.requires.begins)
+
+pub part-take-head-requires : goal.part-take-head-requires
+part-take-head-requires t c = part-some (map line_of c.args.rest.now) c.requires
+
+pub part-block-requires : goal.part-block-requires
+part-block-requires t c = (search rules, part-block (map line_of c.args.rest.now) (map line_of c.take-head.new.rest) _ c.requires (ap (map line_of) c.take-head.ensures))
+
+pub part-returns-clause-reads : goal.part-returns-clause-reads
+part-returns-clause-reads t c =
+    let rest = map line_of c.take-head.new.rest in
+    part-read (map line_of c.args.rest.now) rest (map line_of c.block.new.rest) c.in_ok-head.head c.in_ok-head.body
+    (ap (map line_of) c.take-head.ensures ∙ ap (λ head. line_of head ∷ rest) (sym c.in_ok-head.ensures.0))
+    (subst (λ made. IfOk made (λ body. ReadsBlock (items body) rest (map line_of c.block.new.rest))) c.in_ok-head.ensures.1 c.block.ensures.reads)
