@@ -16,6 +16,9 @@ use Rattle.dc_nest.proofs.Unique.{Same, BeginsNone, Stops, item_form, begins, sa
 
 -- ---- which statement is next
 
+pub some-ahead : (line : Line) (rest list : List Line) → list ≡ line ∷ rest → list ≡ [] → ⊥
+some-ahead line rest list same empty = let no : [] ≡ line ∷ rest = sym empty ∙ same in cc
+
 stops-form : (form : Form) → begins_node form ≡ false → BeginsNone form
 stops-form Form.Acts is = absurd (false≢true (sym is))
 stops-form Form.BeginsIf is = absurd (false≢true (sym is))
@@ -44,6 +47,11 @@ item-begins item rest list reads =
     let one = begins item rest reads.nested in
     ap is_node_next (sym reads.lines ∙ one.lines) ∙ ap begins_node one.is ∙ form-begins item
 
+pub item-some : (list : List Line) → ItemAhead list → list ≡ [] → ⊥
+item-some list ahead empty =
+    let one = begins ahead.item ahead.after ahead.reads.nested in
+    some-ahead one.first one.behind list (sym ahead.reads.lines ∙ one.lines) empty
+
 same-form : (item : Item) (rest list : List Line) (form : Form) → ReadsItem item list rest → next_form list ≡ Some form → item_form item ≡ form
 same-form item rest list form reads next = some-form (item_form item) form (sym (item-next item rest list reads) ∙ next)
 
@@ -57,9 +65,6 @@ no-node form line rest stops is = ap begins_node is ∙ stops
 arms-no-node : (wanted : Form) (arms : Arms) (rest : List Line) → begins_node wanted ≡ false → AreArms wanted arms → is_node_next rest ≡ false → is_node_next (arm_lines arms ++ rest) ≡ false
 arms-no-node wanted no_arms rest stops nested ends = ends
 arms-no-node wanted (arm head body arms) rest stops nested ends = no-node wanted head ((lines_of body ++ arm_lines arms) ++ rest) stops nested.0
-
-pub some-ahead : (line : Line) (rest list : List Line) → list ≡ line ∷ rest → list ≡ [] → ⊥
-some-ahead line rest list same empty = let no : [] ≡ line ∷ rest = sym empty ∙ same in cc
 
 pub next-some : (list : List Line) (form : Form) → next_form list ≡ Some form → list ≡ [] → ⊥
 next-some list form next empty = let no : ◌≡◌ {A = Option Form} None (Some form) = ap next_form (sym empty) ∙ next in cc

@@ -69,7 +69,6 @@ fn both<A: Drop, B>(first: A, second: Result<B, NoMemory>) -> Result<(A, B), NoM
 }
 
 #[cycle(building)]
-#[tactic(none)]
 fn part(alloc: Global, rest: &mut Stack<Lined>) -> Result<Part, NoMemory>
     requires { PartAhead (map line_of rest.old) }
     ensures reads { IfOk result (λ part. ReadsPart (part_items part) (map line_of rest.old) (map line_of rest.new)) }
@@ -82,7 +81,6 @@ fn part(alloc: Global, rest: &mut Stack<Lined>) -> Result<Part, NoMemory>
 
 /// With all further arms of one kind.
 #[cycle(building)]
-#[tactic(none)]
 fn with_arms(
     alloc: Global,
     rest: &mut Stack<Lined>,
@@ -101,7 +99,6 @@ fn with_arms(
 }
 
 #[cycle(building)]
-#[tactic(none)]
 fn branch(alloc: Global, rest: &mut Stack<Lined>) -> Result<Node, NoMemory>
     requires ahead { ItemAhead (map line_of rest.old) }
     requires begins { next_form (map line_of rest.old) ≡ Some Form.BeginsIf }
@@ -116,7 +113,6 @@ fn branch(alloc: Global, rest: &mut Stack<Lined>) -> Result<Node, NoMemory>
 }
 
 #[cycle(building)]
-#[tactic(none)]
 fn selection(alloc: Global, rest: &mut Stack<Lined>) -> Result<Node, NoMemory>
     requires ahead { ItemAhead (map line_of rest.old) }
     requires begins { next_form (map line_of rest.old) ≡ Some Form.BeginsSelect }
@@ -130,7 +126,6 @@ fn selection(alloc: Global, rest: &mut Stack<Lined>) -> Result<Node, NoMemory>
 }
 
 #[cycle(building)]
-#[tactic(none)]
 fn looping(alloc: Global, rest: &mut Stack<Lined>) -> Result<Node, NoMemory>
     requires ahead { ItemAhead (map line_of rest.old) }
     requires begins { next_form (map line_of rest.old) ≡ Some Form.BeginsLoop }
@@ -143,7 +138,6 @@ fn looping(alloc: Global, rest: &mut Stack<Lined>) -> Result<Node, NoMemory>
 }
 
 #[cycle(building)]
-#[tactic(none)]
 fn node(alloc: Global, rest: &mut Stack<Lined>) -> Result<Node, NoMemory>
     requires { ItemAhead (map line_of rest.old) }
     ensures reads { IfOk result (λ node. ReadsItem (item node) (map line_of rest.old) (map line_of rest.new)) }
@@ -158,7 +152,6 @@ fn node(alloc: Global, rest: &mut Stack<Lined>) -> Result<Node, NoMemory>
 }
 
 #[cycle(building)]
-#[tactic(none)]
 fn block(alloc: Global, rest: &mut Stack<Lined>) -> Result<Block, NoMemory>
     requires { BlockAhead (map line_of rest.old) }
     ensures reads { IfOk result (λ body. ReadsBlock (items body) (map line_of rest.old) (map line_of rest.new)) }

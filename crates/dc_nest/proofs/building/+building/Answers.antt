@@ -1,10 +1,10 @@
-use Rattle.std.proofs.Common.{rules, ◌≡◌, ◌∷◌, map, sym, ap, subst, ◌∙◌, arith}
+use Rattle.std.proofs.Common.{rules, ◌≡◌, [], ◌∷◌, ◌++◌, map, sym, ap, subst, ◌∙◌, arith}
 use Rattle.std.specs.Prelude.{IfOk}
 use Rattle.std.proofs.lemmas.Bool.{false≢true}
 use Rattle.dc_tree.specs.Blocks.{line_of, items, part_items}
 use Rattle.dc_nest.specs.declared.form.Form.{Form}
-use Rattle.dc_nest.specs.Ahead.{ReadsBlock}
-use Rattle.dc_nest.proofs.Reading.{next-some, part-some, part-block, part-read, block-item, block-rest, HasRead, none-read, one-read, block-read, loop-part, arms-part, arms-rest, HasArms, no-arms, one-arm, arms-read, branch-part, branch-arms, select-arms}
+use Rattle.dc_nest.specs.Ahead.{ReadsBlock, ReadsPart, AddsArms}
+use Rattle.dc_nest.proofs.Reading.{next-some, part-some, part-block, part-read, block-item, block-rest, HasRead, none-read, one-read, block-read, item-some, loop-part, loop-some, branch-some, branch-read, select-some, arms-part, arms-rest, HasArms, no-arms, one-arm, arms-read, branch-part, branch-arms, select-arms}
 use Rattle.dc_nest.proofs.building.+building.Goals as goal
 
 pub block-loop-alloc-init : goal.block-loop-alloc-init
@@ -56,3 +56,56 @@ part-returns-clause-reads t c =
     part-read (map line_of c.args.rest.now) rest (map line_of c.block.new.rest) c.in_ok-head.head c.in_ok-head.body
     (ap (map line_of) c.take-head.ensures ∙ ap (λ head. line_of head ∷ rest) (sym c.in_ok-head.ensures.0))
     (subst (λ made. IfOk made (λ body. ReadsBlock (items body) rest (map line_of c.block.new.rest))) c.in_ok-head.ensures.1 c.block.ensures.reads)
+
+pub branch-take-close-requires : goal.branch-take-close-requires
+branch-take-close-requires t c =
+    branch-some (map line_of c.args.rest.now) (map line_of c.part.new.rest) (map line_of c.with_arms.new.rest) _ _ _ c.requires.ahead c.requires.begins c.in_ok-part.ensures.reads c.in_ok-arms.ensures.reads
+
+pub branch-returns-clause-reads : goal.branch-returns-clause-reads
+branch-returns-clause-reads t c =
+    let left = map line_of c.part.new.rest in
+    let last = map line_of c.with_arms.new.rest in
+    let pushed : c.push.new.self ≡ c.in_ok-part.field-0 ∷ [] = c.in_ok-push.ensures.ok ∙ ap (λ arms. arms ++ c.in_ok-part.field-0 ∷ []) c.new-arms.ensures in
+    branch-read (map line_of c.args.rest.now) left last (map line_of c.take-close.new.rest) (part_items c.in_ok-part.field-0) c.in_ok-arms.arms c.take-close.result c.requires.ahead c.requires.begins
+    c.in_ok-part.ensures.reads (subst (λ arms. AddsArms Form.BeginsElse (map part_items arms) (map part_items c.in_ok-arms.arms) left last) pushed c.in_ok-arms.ensures.reads) (ap (map line_of) c.take-close.ensures)
+
+pub looping-take-close-requires : goal.looping-take-close-requires
+looping-take-close-requires t c =
+    loop-some (map line_of c.args.rest.now) (map line_of c.part.new.rest) _ c.requires.ahead c.requires.begins c.in_ok-head.ensures.reads
+
+pub node-take-requires : goal.node-take-requires
+node-take-requires t c = item-some (map line_of c.args.rest.now) c.requires
+
+pub selection-take-head-requires : goal.selection-take-head-requires
+selection-take-head-requires t c = next-some (map line_of c.args.rest.now) Form.BeginsSelect c.requires.begins
+
+pub selection-with_arms-requires : goal.selection-with_arms-requires
+selection-with_arms-requires t c =
+    (search rules, select-arms (map line_of c.args.rest.now) (map line_of c.take-head.new.rest) _ c.requires.ahead c.requires.begins (ap (map line_of) c.take-head.ensures))
+
+pub with_arms-loop-alloc-init : goal.with_arms-loop-alloc-init
+with_arms-loop-alloc-init t c =
+    record { has = no-arms c.args.wanted (map part_items c.args.arms) (map line_of c.args.rest.now); ahead = c.requires; within = omega arith }
+
+pub with_arms-part-requires : goal.with_arms-part-requires
+with_arms-part-requires t c =
+    (search rules, arms-part c.args.wanted (map line_of c.loop-alloc.rest) c.loop-alloc.invariant.ahead (c.is_next.ensures.0 c.loop-alloc-test.true))
+
+pub with_arms-loop-alloc-preserved : goal.with_arms-loop-alloc-preserved
+with_arms-loop-alloc-preserved t c =
+    let start = map line_of c.args.rest.now in
+    let now = map line_of c.loop-alloc.rest in
+    let left = map line_of c.part.new.rest in
+    let next = c.is_next.ensures.0 c.loop-alloc-test.true in
+    record {
+      has =
+          subst (λ made. HasArms c.args.wanted (map part_items c.args.arms) (map part_items made) start left) (sym c.in_ok-push.ensures.ok)
+          (one-arm c.args.wanted (map part_items c.args.arms) c.loop-alloc.arms c.in_ok-part.field-0 start now left c.loop-alloc.invariant.has next c.in_ok-part.ensures.reads);
+      ahead = arms-rest c.args.wanted _ now left c.loop-alloc.invariant.ahead next c.in_ok-part.ensures.reads;
+      within = search rules;
+    }
+
+pub with_arms-returns-clause-reads : goal.with_arms-returns-clause-reads
+with_arms-returns-clause-reads t c =
+    arms-read c.args.wanted (map part_items c.args.arms) (map part_items c.loop-alloc.arms) (map line_of c.args.rest.now) (map line_of c.loop-alloc.rest) c.loop-alloc.invariant.has c.loop-alloc.invariant.ahead
+    (λ same. false≢true (sym c.loop-alloc-test.false ∙ c.is_next.ensures.1 same))
