@@ -5,8 +5,8 @@ use Rattle.std.proofs.lemmas.List.{append-nil, map-append}
 use Rattle.dc_tree.specs.declared.program.Lined.{Lined}
 use Rattle.dc_tree.specs.declared.program.Block.{Block, roll-Block}
 use Rattle.dc_tree.specs.declared.program.Node.{Node, Plain, If, Select, Loop}
-use Rattle.dc_tree.specs.declared.program.Part.{Part, roll-Part}
-use Rattle.dc_tree.specs.Blocks.{Line, Item, Items, Arms, plain, branch, select, loop, none, and_then, no_arms, arm, items_from, arms_from, line_of, item, items, part_items}
+use Rattle.dc_tree.specs.declared.program.Part.{Part, roll-Part, out-Part, fold_out-Part}
+use Rattle.dc_tree.specs.Blocks.{Line, Item, Items, Arms, plain, branch, select, loop, none, and_then, no_arms, arm, items_from, arms_from, line_of, item, items, part_items, item_step, items_step, part_step}
 use Rattle.dc_tree.specs.Listing.{item_lines, lines_of, arm_lines}
 use Rattle.dc_tree.proofs.Views.{items-Block, item-Plain, item-If, item-Select, item-Loop, part_items-Part}
 use Rattle.dc_nest.specs.declared.form.Form.{Form}
@@ -170,6 +170,9 @@ part-read list rest left head body taken reads =
     (record { nested = reads.nested; ends = reads.ends; lines = ap (λ lines. line_of head ∷ lines) reads.lines ∙ sym taken })
 
 -- ---- loops
+
+pub part-fields : (part : Part) → part_items part ≡ (line_of part.head, items part.body)
+part-fields part = fold_out-Part Item Items (Line × Items) item_step items_step part_step part
 
 record LoopAhead (list : List Line) : Type 0 where
   head : Line

@@ -1,11 +1,12 @@
-use Rattle.std.proofs.Common.{rules, ◌≡◌, [], ◌∷◌, ◌++◌, map, sym, ap, subst, ◌∙◌, arith}
+use Rattle.std.proofs.Common.{rules, Option, None, Some, ◌≡◌, [], ◌∷◌, ◌++◌, map, sym, ap, subst, ◌∙◌, arith}
 use Rattle.std.specs.Prelude.{IfOk}
 use Rattle.std.proofs.lemmas.Bool.{false≢true}
 use Rattle.dc_tree.specs.Blocks.{line_of, items, part_items}
 use Rattle.dc_nest.specs.declared.form.Form.{Form}
 use Rattle.dc_nest.specs.Ahead.{ReadsBlock, ReadsPart, AddsArms}
-use Rattle.dc_nest.proofs.Reading.{next-some, part-some, part-block, part-read, block-item, block-rest, HasRead, none-read, one-read, block-read, item-some, loop-part, loop-some, branch-some, branch-read, select-some, arms-part, arms-rest, HasArms, no-arms, one-arm, arms-read, branch-part, branch-arms, select-arms}
+use Rattle.dc_nest.proofs.Reading.{next-some, part-some, part-block, part-read, block-item, block-rest, HasRead, none-read, one-read, block-read, item-some, loop-part, loop-some, loop-read, part-fields, plain-read, branch-some, branch-read, select-some, select-read, arms-part, arms-rest, HasArms, no-arms, one-arm, arms-read, branch-part, branch-arms, select-arms}
 use Rattle.dc_nest.proofs.building.+building.Goals as goal
+use Rattle.dc_nest.proofs.building.+building.Goals.{node-in_default-via-in-Some+in_default, node-in_default-via-in_default}
 
 pub block-loop-alloc-init : goal.block-loop-alloc-init
 block-loop-alloc-init t c =
@@ -109,3 +110,39 @@ pub with_arms-returns-clause-reads : goal.with_arms-returns-clause-reads
 with_arms-returns-clause-reads t c =
     arms-read c.args.wanted (map part_items c.args.arms) (map part_items c.loop-alloc.arms) (map line_of c.args.rest.now) (map line_of c.loop-alloc.rest) c.loop-alloc.invariant.has c.loop-alloc.invariant.ahead
     (λ same. false≢true (sym c.loop-alloc-test.false ∙ c.is_next.ensures.1 same))
+
+pub looping-returns-clause-reads : goal.looping-returns-clause-reads
+looping-returns-clause-reads t c =
+    let start = map line_of c.args.rest.now in
+    let left = map line_of c.part.new.rest in
+    let one = c.in_ok-head.field-0 in
+    loop-read start left (map line_of c.take-close.new.rest) one.head one.body c.take-close.result c.requires.ahead c.requires.begins
+    (subst (λ part. ReadsPart part start left) (part-fields one) c.in_ok-head.ensures.reads) (ap (map line_of) c.take-close.ensures)
+
+pub selection-take-close-requires : goal.selection-take-close-requires
+selection-take-close-requires t c =
+    let rest = map line_of c.take-head.new.rest in
+    let last = map line_of c.with_arms.new.rest in
+    select-some (map line_of c.args.rest.now) rest last _ [] (map part_items c.in_ok-head.arms) c.requires.ahead c.requires.begins (ap (map line_of) c.take-head.ensures)
+    (subst (λ arms. AddsArms Form.BeginsCase (map part_items arms) (map part_items c.in_ok-head.arms) rest last) c.new.ensures
+    (subst (λ made. IfOk made (λ made. AddsArms Form.BeginsCase (map part_items c.new.result) (map part_items made) rest last)) c.in_ok-head.ensures.1 c.with_arms.ensures.reads))
+
+pub selection-returns-clause-reads : goal.selection-returns-clause-reads
+selection-returns-clause-reads t c =
+    let rest = map line_of c.take-head.new.rest in
+    let last = map line_of c.with_arms.new.rest in
+    select-read (map line_of c.args.rest.now) rest last (map line_of c.take-close.new.rest) c.in_ok-head.head c.in_ok-head.arms c.take-close.result c.requires.ahead c.requires.begins
+    (ap (map line_of) c.take-head.ensures ∙ ap (λ head. line_of head ∷ rest) (sym c.in_ok-head.ensures.0))
+    (subst (λ arms. AddsArms Form.BeginsCase (map part_items arms) (map part_items c.in_ok-head.arms) rest last) c.new.ensures
+    (subst (λ made. IfOk made (λ made. AddsArms Form.BeginsCase (map part_items c.new.result) (map part_items made) rest last)) c.in_ok-head.ensures.1 c.with_arms.ensures.reads))
+    (ap (map line_of) c.take-close.ensures)
+
+pub node-returns-in_default-clause-reads : goal.node-returns-in_default-clause-reads
+node-returns-in_default-clause-reads t c =
+    let start = map line_of c.args.rest.now in
+    let is = sym c.next_form.ensures in
+    plain-read start c.take.result (map line_of c.take.new.rest) c.requires
+    (λ next. elim c.in_default.branch [ node-in_default-via-in-Some+in_default w ↦ search rules | node-in_default-via-in_default w ↦ (let no : ◌≡◌ {A = Option Form} None (Some Form.BeginsIf) = sym w.in_default.is ∙ c.next_form.ensures ∙ next in cc) ])
+    (λ next. elim c.in_default.branch [ node-in_default-via-in-Some+in_default w ↦ search rules | node-in_default-via-in_default w ↦ (let no : ◌≡◌ {A = Option Form} None (Some Form.BeginsSelect) = sym w.in_default.is ∙ c.next_form.ensures ∙ next in cc) ])
+    (λ next. elim c.in_default.branch [ node-in_default-via-in-Some+in_default w ↦ search rules | node-in_default-via-in_default w ↦ (let no : ◌≡◌ {A = Option Form} None (Some Form.BeginsLoop) = sym w.in_default.is ∙ c.next_form.ensures ∙ next in cc) ])
+    (ap (map line_of) c.take.ensures)
