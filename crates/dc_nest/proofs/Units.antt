@@ -1,7 +1,7 @@
 -- The same of units and programs: what is read is what stands there, and what is left behind it can be read on.
-use Rattle.std.proofs.Common.{◌≡◌, ℕ, false, List, [], ◌∷◌, ◌++◌, map, All, Option, None, Some, refl, sym, ap, subst, ◌∙◌, append_assoc}
+use Rattle.std.proofs.Common.{◌≡◌, ℕ, ◌+◌, ◌<◌, length, arith, add-one, length-append, false, List, [], ◌∷◌, ◌++◌, map, All, Option, None, Some, refl, sym, ap, subst, ◌∙◌, append_assoc}
 use Rattle.std.specs.Prelude.{flat_map}
-use Rattle.std.proofs.lemmas.List.{append-nil, map-append}
+use Rattle.std.proofs.lemmas.List.{append-nil, map-append, length-map}
 use Rattle.std.proofs.lemmas.List.Elements.{All-head, All-tail, All-nil, All-push}
 use Rattle.dc_tree.specs.declared.program.Lined.{Lined}
 use Rattle.dc_tree.specs.declared.program.Block.{Block}
@@ -193,6 +193,13 @@ split-further (first ∷ more) after list left read reads next one =
 
 pub further-procedures : (list left : List Line) (read : Subprogram) → ProceduresAhead list → next_form list ≡ Some Form.BeginsProcedure → ReadsProcedure read list left → ProceduresAhead left
 further-procedures list left read ahead next one = split-further ahead.procedures ahead.after list left read ahead.reads next one
+
+-- A procedure has a statement.
+pub procedure-shorter : (procedure : Subprogram) (before after : List Lined) → ReadsProcedure procedure (map line_of before) (map line_of after) → length after < length before
+procedure-shorter procedure before after reads =
+    let inside = procedure.front ++ (lines_of procedure.body ++ procedure.close ∷ []) in
+    let long : length (inside ++ map line_of after) + 1 ≡ length (map line_of before) = add-one (length (inside ++ map line_of after)) ∙ ap length reads.lines in
+    omega (arith, long, length-append inside (map line_of after), length-map after line_of, length-map before line_of)
 
 -- the procedures that were read so far
 pub record HasProcedures (procedures : List Subprogram) (before now : List Line) : Type 0 where

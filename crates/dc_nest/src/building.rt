@@ -175,7 +175,6 @@ fn front(alloc: Global, rest: &mut Stack<Lined>) -> Result<DcList<Lined>, NoMemo
     Ok(front)
 }
 
-#[tactic(none)]
 fn unit(alloc: Global, rest: &mut Stack<Lined>) -> Result<OpenUnit, NoMemory>
     requires { UnitAhead (map line_of rest.old) }
     ensures { IfOk result (λ unit. ReadsUnit (line_of unit.head) (map line_of unit.front) (items unit.body) (map line_of rest.old) (map line_of rest.new)) }
@@ -186,7 +185,6 @@ fn unit(alloc: Global, rest: &mut Stack<Lined>) -> Result<OpenUnit, NoMemory>
     Ok(OpenUnit { head, front, body })
 }
 
-#[tactic(none)]
 fn procedure(alloc: Global, rest: &mut Stack<Lined>) -> Result<Procedure, NoMemory>
     requires { ProcedureAhead (map line_of rest.old) }
     ensures { IfOk result (λ procedure. ReadsProcedure (subprogram_of procedure) (map line_of rest.old) (map line_of rest.new)) }
@@ -201,7 +199,6 @@ fn procedure(alloc: Global, rest: &mut Stack<Lined>) -> Result<Procedure, NoMemo
     })
 }
 
-#[tactic(none)]
 fn procedures(alloc: Global, rest: &mut Stack<Lined>) -> Result<DcList<Procedure>, NoMemory>
     requires { ProceduresAhead (map line_of rest.old) }
     ensures { IfOk result (λ made. ReadsProcedures (map subprogram_of made) (map line_of rest.old) (map line_of rest.new)) }
@@ -218,15 +215,16 @@ fn contains(rest: &mut Stack<Lined>) -> Option<u32>
     ensures reads { contains_lines result ++ map line_of rest.new ≡ map line_of rest.old }
     ensures absent { result ≡ None → next_form (map line_of rest.new) ≡ Some Form.BeginsProcedures → ⊥ }
 {
-    if is_next(rest, Form::BeginsProcedures) {
-        Some(take(rest).line)
-    } else {
-        None
+    if !is_next(rest, Form::BeginsProcedures) {
+        return None;
     }
+    let lined = take(rest);
+    let line = lined.line;
+    drop(lined);
+    Some(line)
 }
 
 /// The tree of statements that are those of a program.
-#[tactic(none)]
 pub(crate) fn program(alloc: Global, rest: &mut Stack<Lined>) -> Result<Program, NoMemory>
     requires { ProgramAhead (map line_of rest.old) }
     ensures { IfOk result (λ program. ReadsProgram (source_of program) (map line_of rest.old)) }

@@ -4,8 +4,8 @@ use Rattle.dc_nest.specs.Ahead.{ProceduresAhead}
 use Rattle.dc_nest.proofs.Units.{HasProcedures}
 use Rattle.dc_nest.proofs.building.procedures.Given as goal
 
-abbrev pub invariant-loop-procedures : goal.invariant-loop-procedures
-invariant-loop-procedures l = record { has : HasProcedures (map subprogram_of l.procedures) (map line_of l.fn.rest) (map line_of l.rest); ahead : ProceduresAhead (map line_of l.rest) }
+abbrev pub invariant-loop-alloc : goal.invariant-loop-alloc
+invariant-loop-alloc l = record { has : HasProcedures (map subprogram_of l.procedures) (map line_of l.fn.rest) (map line_of l.rest); ahead : ProceduresAhead (map line_of l.rest) }
 
-abbrev pub decreases-loop-procedures : goal.decreases-loop-procedures
-decreases-loop-procedures l = length l.rest
+abbrev pub decreases-loop-alloc : goal.decreases-loop-alloc
+decreases-loop-alloc l = length l.rest

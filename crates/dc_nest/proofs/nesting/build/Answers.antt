@@ -1,0 +1,11 @@
+use Rattle.std.proofs.Common.{◌≡◌, map, sym, ap, subst, ◌∙◌}
+use Rattle.dc_tree.specs.Blocks.{line_of, source_of}
+use Rattle.dc_nest.specs.Ahead.{ReadsProgram, ProgramAhead}
+use Rattle.dc_nest.proofs.Made.{unbroken-ahead, nests}
+use Rattle.dc_nest.proofs.nesting.build.Goals as goal
+
+pub program-requires : goal.program-requires
+program-requires c = subst (λ list. ProgramAhead (map line_of list)) (sym c.from_list.ensures) (unbroken-ahead (map line_of c.args.list) c.requires)
+
+pub returns : goal.returns
+returns c = ?
