@@ -1,6 +1,4 @@
 use Rattle.dc_nest.proofs.Made.{some-source}
-use Rattle.dc_nest.proofs.Reading.{select-read}
-use Rattle.dc_nest.proofs.Units.{program-read}
 use Rattle.dc_nest.proofs.law.an_unbroken_list_nests.Goals as goal
 
 pub returns : goal.returns
