@@ -1,8 +1,9 @@
 mod Examples
+pub mod Found
 pub mod First
-pub mod Grown
 pub mod Judged
 pub mod Made
-pub mod Puts
+pub mod Reading
 pub mod Stacks
+pub mod Units
 pub mod Unique

@@ -1,42 +1,28 @@
--- The draft of statements that break no rule is a program, which is theirs.
-use Rattle.std.proofs.Common.{◌≡◌, ℕ, true, List, map, None, sym, subst, ◌∙◌, inl, inr}
+-- Statements that break no rule are those of a program.
+use Rattle.std.proofs.Common.{◌≡◌, ℕ, true, List, None, inl, inr}
 use Rattle.std.proofs.lemmas.Bool.{cases_Bool}
-use Rattle.dc_tree.specs.declared.program.Lined.{Lined}
-use Rattle.dc_tree.specs.declared.program.Program.{Program}
-use Rattle.dc_tree.specs.Blocks.{line_of, source_of}
+use Rattle.dc_tree.specs.Blocks.{Line, Source}
 use Rattle.dc_nest.specs.declared.place.Place.{Place}
 use Rattle.dc_nest.specs.declared.rule.Rule.{Rule}
-use Rattle.dc_nest.specs.declared.draft.Draft.{Draft}
 use Rattle.dc_nest.specs.Rules.{Breaks}
 use Rattle.dc_nest.specs.Judging.{judged, is_whole}
-use Rattle.dc_nest.specs.Drafts.{put_all}
+use Rattle.dc_nest.specs.Ahead.{ReadsProgram, ProgramAhead}
 use Rattle.dc_nest.specs.Answer.{Nests}
 use Rattle.dc_nest.proofs.Judged.{none-judged, whole-judged, broken-misplaced}
-use Rattle.dc_nest.proofs.Puts.{IsBuilt, built}
+use Rattle.dc_nest.proofs.Found.{program-found}
 
-one-program : (a b : Program) → Draft.Ended a ≡ Draft.Ended b → a ≡ b
-one-program a b same = cc
+pub unbroken-ahead : (list : List Line) → judged None Place.Outset 1 list ≡ None → ProgramAhead list
+unbroken-ahead list none = program-found list (whole-judged list none)
 
-pub nests : (list : List Lined) (program : Program) → judged None Place.Outset 1 (map line_of list) ≡ None → put_all Draft.Outset list ≡ Draft.Ended program
-    → Nests (map line_of list) (source_of program)
-nests list program none made =
-    let found = built list (whole-judged (map line_of list) none) in
-    let same : found.0 ≡ program = one-program found.0 program (sym found.1.0 ∙ made) in
-    let is_built : IsBuilt list program = subst (IsBuilt list) same found.1.1 in
-    record { none_broken = none-judged (map line_of list) none; is_nested = is_built.nested; lists = is_built.lines }
+pub nests : (list : List Line) (source : Source) → judged None Place.Outset 1 list ≡ None → ReadsProgram source list → Nests list source
+nests list source none reads = record { none_broken = none-judged list none; is_nested = reads.nested; lists = reads.lines }
 
-pub never-open : (list : List Lined) → judged None Place.Outset 1 (map line_of list) ≡ None → ((program : Program) → put_all Draft.Outset list ≡ Draft.Ended program → ⊥) → ⊥
-never-open list none still_open =
-    let found = built list (whole-judged (map line_of list) none) in
-    still_open found.0 found.1.0
-
--- Statements that break no rule are those of a program.
-pub some-program : (list : List Lined) → ((rule : Rule) (line : ℕ) → Breaks rule (map line_of list) line → ⊥) → (program : Program) × Nests (map line_of list) (source_of program)
-some-program list none =
-    let whole : is_whole Place.Outset (map line_of list) ≡ true =
-    elim (cases_Bool (is_whole Place.Outset (map line_of list))) [
+pub some-source : (list : List Line) → ((rule : Rule) (line : ℕ) → Breaks rule list line → ⊥) → (source : Source) × Nests list source
+some-source list none =
+    let whole : is_whole Place.Outset list ≡ true =
+    elim (cases_Bool (is_whole Place.Outset list)) [
       | inl whole ↦ whole
-      | inr unended ↦ let broken = broken-misplaced Place.Outset 1 (map line_of list) unended in absurd (none Rule.Misplaced broken.0 broken.1)
+      | inr unended ↦ let broken = broken-misplaced Place.Outset 1 list unended in absurd (none Rule.Misplaced broken.0 broken.1)
     ] in
-    let found = built list whole in
-    (found.0, record { none_broken = none; is_nested = found.1.1.nested; lists = found.1.1.lines })
+    let found = program-found list whole in
+    (found.source, record { none_broken = none; is_nested = found.reads.nested; lists = found.reads.lines })

@@ -6,11 +6,12 @@ use Rattle.dc_tree.specs.Statements.{contains_line}
 use Rattle.dc_tree.specs.Blocks.{Line, Item, Items, Arms, plain, branch, select, loop, none, and_then, no_arms, arm, Subprogram, Source}
 use Rattle.dc_tree.specs.Listing.{item_lines, lines_of, arm_lines, contains_lines, subprogram_lines, listed}
 use Rattle.dc_nest.specs.declared.form.Form.{Form}
+use Rattle.dc_nest.specs.Ahead.{next_form}
 use Rattle.dc_nest.specs.Nested.{form_of, Is, IsNestedItem, AreNested, IsBranch, AreArms, IsNestedSubprogram, AreContained, IsNested}
 
 -- ---- statements that begin no item
 
-abbrev BeginsNone : Form → Type 0
+abbrev pub BeginsNone : Form → Type 0
 BeginsNone Form.Acts = ⊥
 BeginsNone Form.BeginsIf = ⊥
 BeginsNone Form.BeginsSelect = ⊥
@@ -18,11 +19,11 @@ BeginsNone Form.BeginsLoop = ⊥
 BeginsNone _ = Unit {0}
 
 -- what follows a block: nothing, or a statement that begins no item
-abbrev Stops : List Line → Type 0
+abbrev pub Stops : List Line → Type 0
 Stops [] = Unit {0}
 Stops (line ∷ rest) = BeginsNone (form_of line.says)
 
-stops-by : (wanted : Form) (line : Line) → BeginsNone wanted → Is wanted line → BeginsNone (form_of line.says)
+pub stops-by : (wanted : Form) (line : Line) → BeginsNone wanted → Is wanted line → BeginsNone (form_of line.says)
 stops-by wanted line stops is = subst BeginsNone (sym is) stops
 
 abbrev first_or : Line → List Line → Line
@@ -33,10 +34,10 @@ abbrev rest_of : List Line → List Line
 rest_of [] = []
 rest_of (line ∷ rest) = rest
 
-same-first : (a b : Line) (more others : List Line) → a ∷ more ≡ b ∷ others → a ≡ b
+pub same-first : (a b : Line) (more others : List Line) → a ∷ more ≡ b ∷ others → a ≡ b
 same-first a b more others same = ap (first_or a) same
 
-same-rest : (a b : Line) (more others : List Line) → a ∷ more ≡ b ∷ others → more ≡ others
+pub same-rest : (a b : Line) (more others : List Line) → a ∷ more ≡ b ∷ others → more ≡ others
 same-rest a b more others same = ap rest_of same
 
 -- Two forms of one line are one.
@@ -44,20 +45,20 @@ one-form : (a b : Form) (x y : Line) → Is a x → Is b y → x ≡ y → a ≡
 one-form a b x y is other same = sym is ∙ ap (λ (line : Line). form_of line.says) same ∙ other
 
 -- the form of an item's first statement
-abbrev item_form : Item → Form
+abbrev pub item_form : Item → Form
 item_form (plain line) = Form.Acts
 item_form (branch arms close) = Form.BeginsIf
 item_form (select head arms close) = Form.BeginsSelect
 item_form (loop head body close) = Form.BeginsLoop
 
 -- an item with what stands behind it
-record Begins (item : Item) (rest : List Line) : Type 0 where
-  first : Line
-  behind : List Line
-  is : Is (item_form item) first
-  lines : item_lines item ++ rest ≡ first ∷ behind
+pub record Begins (item : Item) (rest : List Line) : Type 0 where
+  pub first : Line
+  pub behind : List Line
+  pub is : Is (item_form item) first
+  pub lines : item_lines item ++ rest ≡ first ∷ behind
 
-begins : (item : Item) (rest : List Line) → IsNestedItem item → Begins item rest
+pub begins : (item : Item) (rest : List Line) → IsNestedItem item → Begins item rest
 begins (plain line) rest nested = record { first = line; behind = rest; is = nested; lines = refl }
 begins (branch no_arms close) rest nested = absurd nested.0
 begins (branch (arm head body arms) close) rest nested =
@@ -65,7 +66,7 @@ begins (branch (arm head body arms) close) rest nested =
 begins (select head arms close) rest nested = record { first = head; behind = (arm_lines arms ++ close ∷ []) ++ rest; is = nested.0; lines = refl }
 begins (loop head body close) rest nested = record { first = head; behind = (lines_of body ++ close ∷ []) ++ rest; is = nested.0; lines = refl }
 
-same-forms : (a b : Item) (r s : List Line) → IsNestedItem a → IsNestedItem b → item_lines a ++ r ≡ item_lines b ++ s → item_form a ≡ item_form b
+pub same-forms : (a b : Item) (r s : List Line) → IsNestedItem a → IsNestedItem b → item_lines a ++ r ≡ item_lines b ++ s → item_form a ≡ item_form b
 same-forms a b r s nested other same =
     let one = begins a r nested in
     let two = begins b s other in
@@ -89,31 +90,29 @@ not-stopped item rest stop nested stops same =
 -- ---- blocks
 
 -- Two with the same statements in front of what follows them are one, and so is what follows.
-abbrev Same : {A : Type 0} → A → A → List Line → List Line → Type 0
+abbrev pub Same : {A : Type 0} → A → A → List Line → List Line → Type 0
 Same a b r s = (a ≡ b) × (r ≡ s)
 
 -- what follows arms of one kind: neither an item, nor another arm
-record Behind (wanted : Form) (rest : List Line) : Type 0 where
-  stops : Stops rest
-  first : Line
-  behind : List Line
-  is : rest ≡ first ∷ behind
-  other : form_of first.says ≡ wanted → ⊥
+pub record Behind (wanted : Form) (rest : List Line) : Type 0 where
+  pub stops : Stops rest
+  pub other : next_form rest ≡ Some wanted → ⊥
 
-closes : (wanted ending : Form) (close : Line) (rest : List Line) → BeginsNone ending → (ending ≡ wanted → ⊥) → Is ending close → Behind wanted (close ∷ rest)
+pub some-form : (a b : Form) → Some a ≡ Some b → a ≡ b
+some-form a b same = cc
+
+pub closes : (wanted ending : Form) (close : Line) (rest : List Line) → BeginsNone ending → (ending ≡ wanted → ⊥) → Is ending close → Behind wanted (close ∷ rest)
 closes wanted ending close rest stops apart is =
-    record { stops = stops-by ending close stops is; first = close; behind = rest; is = refl; other = λ same. apart (sym is ∙ same) }
+    record { stops = stops-by ending close stops is; other = λ same. apart (some-form ending wanted (ap Some (sym is) ∙ same)) }
 
 no-arm : (wanted : Form) (head : Line) (more rest : List Line) → Is wanted head → Behind wanted rest → head ∷ more ≡ rest → ⊥
-no-arm wanted head more rest is behind same =
-    let first : head ≡ behind.first = same-first head behind.first more behind.behind (same ∙ behind.is) in
-    behind.other (ap (λ (line : Line). form_of line.says) (sym first) ∙ is)
+no-arm wanted head more rest is behind same = behind.other (ap next_form (sym same) ∙ ap Some is)
 
-regroup : (a b c : List Line) → (a ++ b) ++ c ≡ a ++ (b ++ c)
+pub regroup : (a b c : List Line) → (a ++ b) ++ c ≡ a ++ (b ++ c)
 regroup a b c = append_assoc a b c
 
 -- the arms behind a block stop it
-arms-stop : (wanted : Form) (arms : Arms) (rest : List Line) → BeginsNone wanted → AreArms wanted arms → Behind wanted rest → Stops (arm_lines arms ++ rest)
+pub arms-stop : (wanted : Form) (arms : Arms) (rest : List Line) → BeginsNone wanted → AreArms wanted arms → Behind wanted rest → Stops (arm_lines arms ++ rest)
 arms-stop wanted no_arms rest stops nested behind = behind.stops
 arms-stop wanted (arm head body arms) rest stops nested behind = stops-by wanted head stops nested.0
 
@@ -153,7 +152,7 @@ apart-end-case : Form.EndsSelect ≡ Form.BeginsCase → ⊥
 apart-end-case same = cc
 
 mutual
-  one-block : (a b : Items) (r s : List Line) → AreNested a → AreNested b → Stops r → Stops s → lines_of a ++ r ≡ lines_of b ++ s → Same a b r s
+  pub one-block : (a b : Items) (r s : List Line) → AreNested a → AreNested b → Stops r → Stops s → lines_of a ++ r ≡ lines_of b ++ s → Same a b r s
   one-block none none r s nested other stops_r stops_s same = (refl, same)
   one-block none (and_then item items) r s nested other stops_r stops_s same =
       absurd (not-stopped item (lines_of items ++ s) r other.0 stops_r (sym (regroup (item_lines item) (lines_of items) s) ∙ sym same))
@@ -165,7 +164,7 @@ mutual
       let rest = one-block items items' r s nested.1 other.1 stops_r stops_s first.1 in
       ((λ i. and_then (first.0 i) (rest.0 i)), rest.1)
 
-  one-item : (a b : Item) (r s : List Line) → IsNestedItem a → IsNestedItem b → item_lines a ++ r ≡ item_lines b ++ s → Same a b r s
+  pub one-item : (a b : Item) (r s : List Line) → IsNestedItem a → IsNestedItem b → item_lines a ++ r ≡ item_lines b ++ s → Same a b r s
   one-item (plain line) (plain line') r s nested other same = (ap plain (same-first line line' r s same), same-rest line line' r s same)
   one-item (branch arms close) (branch arms' close') r s nested other same =
       let lines = sym (regroup (arm_lines arms) (close ∷ []) r) ∙ same ∙ regroup (arm_lines arms') (close' ∷ []) s in
@@ -211,7 +210,7 @@ mutual
       let rest = one-arms Form.BeginsElse arms arms' (close ∷ r) (close' ∷ s) tt nested.2 other.2 behind behind' block.1 in
       ((λ i. arm (inner.0 i) (block.0 i) (rest.0 i)), rest.1)
 
-  one-arms : (wanted : Form) (a b : Arms) (r s : List Line) → BeginsNone wanted → AreArms wanted a → AreArms wanted b → Behind wanted r → Behind wanted s
+  pub one-arms : (wanted : Form) (a b : Arms) (r s : List Line) → BeginsNone wanted → AreArms wanted a → AreArms wanted b → Behind wanted r → Behind wanted s
       → arm_lines a ++ r ≡ arm_lines b ++ s → Same a b r s
   one-arms wanted no_arms no_arms r s stops nested other behind behind' same = (refl, same)
   one-arms wanted no_arms (arm head' body' arms') r s stops nested other behind behind' same =
@@ -229,11 +228,11 @@ mutual
 -- ---- units and programs
 
 -- what follows the front of a unit: nothing, or a statement that isn't in a front
-abbrev EndsFront : List Line → Type 0
+abbrev pub EndsFront : List Line → Type 0
 EndsFront [] = Unit {0}
 EndsFront (line ∷ rest) = form_of line.says ≡ Form.InFront → ⊥
 
-one-front : (a b r s : List Line) → All (Is Form.InFront) a → All (Is Form.InFront) b → EndsFront r → EndsFront s → a ++ r ≡ b ++ s → Same a b r s
+pub one-front : (a b r s : List Line) → All (Is Form.InFront) a → All (Is Form.InFront) b → EndsFront r → EndsFront s → a ++ r ≡ b ++ s → Same a b r s
 one-front [] [] r s all other ends_r ends_s same = (refl, same)
 one-front [] (line ∷ b) r s all other ends_r ends_s same = absurd (subst EndsFront same ends_r (All-head (Is Form.InFront) line b other))
 one-front (line ∷ a) [] r s all other ends_r ends_s same = absurd (subst EndsFront (sym same) ends_s (All-head (Is Form.InFront) line a all))
@@ -248,7 +247,7 @@ item-no-front (select head arms close) same = let no : ⊥ = cc in no
 item-no-front (loop head body close) same = let no : ⊥ = cc in no
 
 -- A body, and what follows it, ends a front.
-body-ends : (body : Items) (rest : List Line) → AreNested body → EndsFront rest → EndsFront (lines_of body ++ rest)
+pub body-ends : (body : Items) (rest : List Line) → AreNested body → EndsFront rest → EndsFront (lines_of body ++ rest)
 body-ends none rest nested ends = ends
 body-ends (and_then item items) rest nested ends =
     let one = begins item (lines_of items ++ rest) nested.0 in
@@ -256,12 +255,12 @@ body-ends (and_then item items) rest nested ends =
     subst EndsFront (sym lines) (λ same. item-no-front item (sym one.is ∙ same))
 
 -- what follows the body of a unit
-record EndsBody (rest : List Line) : Type 0 where
-  stops : Stops rest
-  front : EndsFront rest
+pub record EndsBody (rest : List Line) : Type 0 where
+  pub stops : Stops rest
+  pub front : EndsFront rest
 
 -- a front and a body
-one-inside : (front front' : List Line) (body body' : Items) (r s : List Line) → All (Is Form.InFront) front → All (Is Form.InFront) front' → AreNested body → AreNested body' → EndsBody r → EndsBody s
+pub one-inside : (front front' : List Line) (body body' : Items) (r s : List Line) → All (Is Form.InFront) front → All (Is Form.InFront) front' → AreNested body → AreNested body' → EndsBody r → EndsBody s
     → front ++ (lines_of body ++ r) ≡ front' ++ (lines_of body' ++ s) → (front ≡ front') × (body ≡ body') × (r ≡ s)
 one-inside front front' body body' r s all other nested nested' ends ends' same =
     let fronts = one-front front front' (lines_of body ++ r) (lines_of body' ++ s) all other (body-ends body r nested ends.front) (body-ends body' s nested' ends'.front) same in
@@ -271,14 +270,14 @@ one-inside front front' body body' r s all other nested nested' ends ends' same 
 end-front : Form.EndsUnit ≡ Form.InFront → ⊥
 end-front same = cc
 
-end-ends : (close : Line) (rest : List Line) → Is Form.EndsUnit close → EndsBody (close ∷ rest)
+pub end-ends : (close : Line) (rest : List Line) → Is Form.EndsUnit close → EndsBody (close ∷ rest)
 end-ends close rest is = record { stops = stops-by Form.EndsUnit close tt is; front = λ same. end-front (sym is ∙ same) }
 
-end-procedure : Form.EndsUnit ≡ Form.BeginsProcedure → ⊥
+pub end-procedure : Form.EndsUnit ≡ Form.BeginsProcedure → ⊥
 end-procedure same = cc
 
 -- one procedure, and what follows it
-one-procedure : (a b : Subprogram) (r s : List Line) → IsNestedSubprogram a → IsNestedSubprogram b → subprogram_lines a ++ r ≡ subprogram_lines b ++ s → Same a b r s
+pub one-procedure : (a b : Subprogram) (r s : List Line) → IsNestedSubprogram a → IsNestedSubprogram b → subprogram_lines a ++ r ≡ subprogram_lines b ++ s → Same a b r s
 one-procedure a b r s nested other same =
     let inner : List Line = (a.front ++ (lines_of a.body ++ a.close ∷ [])) ++ r in
     let inner' : List Line = (b.front ++ (lines_of b.body ++ b.close ∷ [])) ++ s in
@@ -292,11 +291,11 @@ one-procedure a b r s nested other same =
       same-rest a.close b.close r s all.2,
     )
 
-no-procedure : (a : Subprogram) (r : List Line) (close : Line) → IsNestedSubprogram a → Is Form.EndsUnit close → subprogram_lines a ++ r ≡ close ∷ [] → ⊥
+pub no-procedure : (a : Subprogram) (r : List Line) (close : Line) → IsNestedSubprogram a → Is Form.EndsUnit close → subprogram_lines a ++ r ≡ close ∷ [] → ⊥
 no-procedure a r close nested is same =
     end-procedure (one-form Form.EndsUnit Form.BeginsProcedure close a.head is nested.head (sym (same-first a.head close ((a.front ++ (lines_of a.body ++ a.close ∷ [])) ++ r) [] same)))
 
-one-procedures : (a b : List Subprogram) (close close' : Line) → All IsNestedSubprogram a → All IsNestedSubprogram b → Is Form.EndsUnit close → Is Form.EndsUnit close'
+pub one-procedures : (a b : List Subprogram) (close close' : Line) → All IsNestedSubprogram a → All IsNestedSubprogram b → Is Form.EndsUnit close → Is Form.EndsUnit close'
     → flat_map subprogram_lines a ++ close ∷ [] ≡ flat_map subprogram_lines b ++ close' ∷ [] → (a ≡ b) × (close ≡ close')
 one-procedures [] [] close close' all other is is' same = (refl, same-first close close' [] [] same)
 one-procedures [] (p ∷ b) close close' all other is is' same =
@@ -311,13 +310,13 @@ one-procedures (p ∷ a) (q ∷ b) close close' all other is is' same =
     let rest = one-procedures a b close close' (All-tail IsNestedSubprogram p a all) (All-tail IsNestedSubprogram q b other) is is' first.1 in
     ((λ i. first.0 i ∷ rest.0 i), rest.1)
 
-abbrev contained_lines : Option ℕ → List Subprogram → Line → List Line
+abbrev pub contained_lines : Option ℕ → List Subprogram → Line → List Line
 contained_lines contains procedures close = (contains_lines contains ++ flat_map subprogram_lines procedures) ++ close ∷ []
 
 contains-front : Form.BeginsProcedures ≡ Form.InFront → ⊥
 contains-front same = cc
 
-contained-ends : (contains : Option ℕ) (procedures : List Subprogram) (close : Line) → AreContained contains procedures → Is Form.EndsUnit close → EndsBody (contained_lines contains procedures close)
+pub contained-ends : (contains : Option ℕ) (procedures : List Subprogram) (close : Line) → AreContained contains procedures → Is Form.EndsUnit close → EndsBody (contained_lines contains procedures close)
 contained-ends None procedures close bare is =
     subst EndsBody (ap (λ list. flat_map subprogram_lines list ++ close ∷ []) (sym bare)) (end-ends close [] is)
 contained-ends (Some line) procedures close all is = record { stops = tt; front = contains-front }
@@ -332,7 +331,7 @@ alone-contains procedures procedures' line close close' bare is same =
     let contains : Line = record { line = line; says = contains_line } in
     end-contains (one-form Form.EndsUnit Form.BeginsProcedures close contains is refl (same-first close contains [] (flat_map subprogram_lines procedures' ++ close' ∷ []) lines))
 
-one-contained : (contains contains' : Option ℕ) (a b : List Subprogram) (close close' : Line) → AreContained contains a → AreContained contains' b → Is Form.EndsUnit close → Is Form.EndsUnit close'
+pub one-contained : (contains contains' : Option ℕ) (a b : List Subprogram) (close close' : Line) → AreContained contains a → AreContained contains' b → Is Form.EndsUnit close → Is Form.EndsUnit close'
     → contained_lines contains a close ≡ contained_lines contains' b close' → (contains ≡ contains') × (a ≡ b) × (close ≡ close')
 one-contained None None a b close close' bare bare_too is is' same =
     let left = ap (λ list. flat_map subprogram_lines list ++ close ∷ []) bare in

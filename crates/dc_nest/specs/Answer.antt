@@ -43,4 +43,4 @@ IsOneRefusal = (list : List Line) (a b : Refusal) → IsFirst list a → IsFirst
 
 -- Statements that break no rule are those of a program.
 abbrev pub IsSomeTree : Type 0
-IsSomeTree = (list : List Lined) → ((rule : Rule) (line : ℕ) → Breaks rule (map line_of list) line → ⊥) → (program : Program) × Nests (map line_of list) (source_of program)
+IsSomeTree = (list : List Line) → ((rule : Rule) (line : ℕ) → Breaks rule list line → ⊥) → (source : Source) × Nests list source

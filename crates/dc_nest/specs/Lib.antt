@@ -1,5 +1,5 @@
+pub mod Ahead
 pub mod Answer
-pub mod Drafts
 pub mod Judging
 pub mod Nested
 pub mod Places

@@ -1,605 +1,245 @@
-//! How the tree of a program grows by one statement, which its place allows.
+//! The tree of a program, read from its statements by recursive descent.
 
-ghost use Rattle.std.specs.Prelude.{◌≡◌, ◌++◌, ◌∷◌, [], IfOk, OnOk};
-ghost use Rattle.dc_tree.specs.declared.program.Node.{Node, Plain, Select};
-ghost use Rattle.dc_nest.specs.declared.draft.Inside.{Inside};
-ghost use Rattle.dc_nest.specs.declared.draft.Draft.{Draft};
-ghost use Rattle.dc_nest.specs.declared.draft.Opened.{Opened};
-ghost use Rattle.dc_nest.specs.Drafts.{part_with, body_of, with_node, within, with_arm, armed_level, armed_from, armed, closed, closed_level, left_from, left, begun, with_front, front_behind, put_body, put_inside, block_of, contained, ended_alone, ended_outer, procedure_with, with_procedure, put_first, put_main, put_between, put_inner, put};
-ghost use Rattle.dc_tree.specs.Statements.{statement};
+ghost use Rattle.std.specs.Prelude.{◌≡◌, ◌<◌, ◌≤◌, ◌↔◌, [], ◌∷◌, ◌++◌, map, length, None, Some, Ok, IsTrue, IfOk, OnOk};
+ghost use Rattle.dc_tree.specs.Blocks.{line_of, item, items, part_items, subprogram_of, source_of};
+ghost use Rattle.dc_tree.specs.Listing.{contains_lines};
 ghost use Rattle.dc_nest.specs.declared.form.Form.{Form};
-ghost use Rattle.dc_nest.specs.declared.place.Front.{Front};
+ghost use Rattle.dc_nest.specs.Ahead.{next_form, is_node_next, ReadsItem, ReadsBlock, ReadsPart, AddsArms, ReadsFront, ReadsUnit, ReadsProcedure, ReadsProcedures, ReadsProgram, ItemAhead, BlockAhead, PartAhead, ArmsAhead, UnitAhead, ProcedureAhead, ProceduresAhead, ProgramAhead};
 
-use crate::draft::{Body, Draft, Inside, Level, Opened, Outer, UnitDraft};
 use crate::form::{Form, form_of};
-use crate::place::Front;
 use crate::stack::Stack;
 use dc_text::{DcList, NoMemory};
-use dc_tree::{Block, Lined, Node, Part, Procedure, Program, Stmt};
+use dc_tree::{Block, Lined, Node, Part, Procedure, Program};
 use std::alloc::Global;
 
-fn unchanged(inside: Inside, _lined: Lined) -> Inside
-    ensures { result ≡ inside }
-{
-    inside
+/// A unit in front of its CONTAINS or END.
+#[derive(Drop)]
+struct OpenUnit {
+    head: Lined,
+    front: DcList<Lined>,
+    body: Block,
 }
 
-fn body_of(alloc: Global, inside: Inside) -> Body
-    ensures { result ≡ body_of inside }
+/// The next statement, of which the judge has shown that it is there.
+fn take(rest: &mut Stack<Lined>) -> Lined
+    requires { map line_of rest.old ≡ [] → ⊥ }
+    ensures { rest.old ≡ result ∷ rest.new }
 {
-    match inside {
-        Inside::Front(_front) => Body {
-            levels: Stack::new(alloc),
-            nodes: DcList::new(alloc),
-        },
-        Inside::Body(body) => body,
-        Inside::Choosing(body, _head) => body,
+    match rest.pop() {
+        Some(lined) => lined,
+        None => unreachable!(),
     }
 }
 
-fn with_node(body: Body, node: Node) -> Result<Inside, NoMemory>
-    ensures { IfOk result (λ made. made ≡ with_node body node) }
+fn next_form(rest: &Stack<Lined>) -> Option<Form>
+    ensures { result ≡ next_form (map line_of rest.now) }
 {
-    let Body { levels, mut nodes } = body;
-    nodes.push(node)?;
-    Ok(Inside::Body(Body { levels, nodes }))
+    match rest.top() {
+        Some(lined) => Some(form_of(&lined.stmt)),
+        None => None,
+    }
 }
 
-fn within(alloc: Global, body: Body, opened: Opened) -> Result<Inside, NoMemory>
-    ensures { IfOk result (λ made. made ≡ within body opened) }
+fn is_node_next(rest: &Stack<Lined>) -> bool
+    ensures { result ≡ is_node_next (map line_of rest.now) }
 {
-    let Body { mut levels, nodes } = body;
-    levels.push(Level {
-        before: nodes,
-        opened,
-    })?;
-    Ok(Inside::Body(Body {
-        levels,
-        nodes: DcList::new(alloc),
-    }))
+    matches!(
+        next_form(rest),
+        Some(Form::Acts | Form::BeginsIf | Form::BeginsSelect | Form::BeginsLoop)
+    )
 }
 
-fn with_part(arms: DcList<Part>, head: Lined, nodes: DcList<Node>) -> Result<DcList<Part>, NoMemory>
-    ensures { IfOk result (λ made. made ≡ arms ++ part_with head nodes ∷ []) }
+fn is_next(rest: &Stack<Lined>, wanted: Form) -> bool
+    ensures { IsTrue result ↔ (next_form (map line_of rest.now) ≡ Some wanted) }
+{
+    match next_form(rest) {
+        Some(form) => form == wanted,
+        None => false,
+    }
+}
+
+/// Both values, if the second is there. A first without a second is dropped.
+fn both<A: Drop, B>(first: A, second: Result<B, NoMemory>) -> Result<(A, B), NoMemory>
+    ensures { IfOk result (λ pair. (pair.0 ≡ first) × (second ≡ Ok pair.1)) }
+{
+    match second {
+        Ok(second) => Ok((first, second)),
+        Err(NoMemory) => Err(NoMemory),
+    }
+}
+
+#[cycle(building)]
+fn part(alloc: Global, rest: &mut Stack<Lined>) -> Result<Part, NoMemory>
+    requires { PartAhead (map line_of rest.old) }
+    ensures reads { IfOk result (λ part. ReadsPart (part_items part) (map line_of rest.old) (map line_of rest.new)) }
+    ensures shorter { OnOk result (length rest.new < length rest.old) }
+{
+    let head = take(rest);
+    let (head, body) = both(head, block(alloc, rest))?;
+    Ok(Part { head, body })
+}
+
+/// With all further arms of one kind.
+#[cycle(building)]
+fn with_arms(
+    alloc: Global,
+    rest: &mut Stack<Lined>,
+    wanted: Form,
+    arms: DcList<Part>,
+) -> Result<DcList<Part>, NoMemory>
+    requires { ArmsAhead wanted (map line_of rest.old) }
+    ensures reads { IfOk result (λ made. AddsArms wanted (map part_items arms) (map part_items made) (map line_of rest.old) (map line_of rest.new)) }
+    ensures shorter { OnOk result (length rest.new ≤ length rest.old) }
 {
     let mut arms = arms;
-    arms.push(Part {
-        head,
-        body: Block { nodes },
-    })?;
+    while is_next(rest, wanted) {
+        arms.push(part(alloc, rest)?)?;
+    }
     Ok(arms)
 }
 
-fn still_loop(head: Lined, _nodes: DcList<Node>, _next: Lined) -> Opened
-    ensures { result ≡ Opened.Loop head }
+#[cycle(building)]
+fn branch(alloc: Global, rest: &mut Stack<Lined>) -> Result<Node, NoMemory>
+    requires ahead { ItemAhead (map line_of rest.old) }
+    requires begins { next_form (map line_of rest.old) ≡ Some Form.BeginsIf }
+    ensures reads { IfOk result (λ node. ReadsItem (item node) (map line_of rest.old) (map line_of rest.new)) }
+    ensures shorter { OnOk result (length rest.new < length rest.old) }
 {
-    Opened::Loop { head }
+    let mut arms = DcList::new(alloc);
+    arms.push(part(alloc, rest)?)?;
+    let arms = with_arms(alloc, rest, Form::BeginsElse, arms)?;
+    let close = take(rest);
+    Ok(Node::If { arms, close })
 }
 
-fn with_arm(opened: Opened, nodes: DcList<Node>, next: Lined) -> Result<Opened, NoMemory>
-    ensures { IfOk result (λ made. made ≡ with_arm opened nodes next) }
+#[cycle(building)]
+fn selection(alloc: Global, rest: &mut Stack<Lined>) -> Result<Node, NoMemory>
+    requires ahead { ItemAhead (map line_of rest.old) }
+    requires begins { next_form (map line_of rest.old) ≡ Some Form.BeginsSelect }
+    ensures reads { IfOk result (λ node. ReadsItem (item node) (map line_of rest.old) (map line_of rest.new)) }
+    ensures shorter { OnOk result (length rest.new < length rest.old) }
 {
-    match opened {
-        Opened::If { arms, head } => Ok(Opened::If {
-            arms: with_part(arms, head, nodes)?,
-            head: next,
-        }),
-        Opened::Select { head, arms, case } => Ok(Opened::Select {
-            head,
-            arms: with_part(arms, case, nodes)?,
-            case: next,
-        }),
-        Opened::Loop { head } => Ok(still_loop(head, nodes, next)),
+    let head = take(rest);
+    let (head, arms) = both(head, with_arms(alloc, rest, Form::BeginsCase, DcList::new(alloc)))?;
+    let close = take(rest);
+    Ok(Node::Select { head, arms, close })
+}
+
+#[cycle(building)]
+fn looping(alloc: Global, rest: &mut Stack<Lined>) -> Result<Node, NoMemory>
+    requires ahead { ItemAhead (map line_of rest.old) }
+    requires begins { next_form (map line_of rest.old) ≡ Some Form.BeginsLoop }
+    ensures reads { IfOk result (λ node. ReadsItem (item node) (map line_of rest.old) (map line_of rest.new)) }
+    ensures shorter { OnOk result (length rest.new < length rest.old) }
+{
+    let Part { head, body } = part(alloc, rest)?;
+    let close = take(rest);
+    Ok(Node::Loop { head, body, close })
+}
+
+#[cycle(building)]
+fn node(alloc: Global, rest: &mut Stack<Lined>) -> Result<Node, NoMemory>
+    requires { ItemAhead (map line_of rest.old) }
+    ensures reads { IfOk result (λ node. ReadsItem (item node) (map line_of rest.old) (map line_of rest.new)) }
+    ensures shorter { OnOk result (length rest.new < length rest.old) }
+{
+    match next_form(rest) {
+        Some(Form::BeginsIf) => branch(alloc, rest),
+        Some(Form::BeginsSelect) => selection(alloc, rest),
+        Some(Form::BeginsLoop) => looping(alloc, rest),
+        _ => Ok(Node::Plain(take(rest))),
     }
 }
 
-fn armed_level(level: Level, nodes: DcList<Node>, next: Lined) -> Result<Level, NoMemory>
-    ensures { IfOk result (λ made. made ≡ armed_level level nodes next) }
+#[cycle(building)]
+fn block(alloc: Global, rest: &mut Stack<Lined>) -> Result<Block, NoMemory>
+    requires { BlockAhead (map line_of rest.old) }
+    ensures reads { IfOk result (λ body. ReadsBlock (items body) (map line_of rest.old) (map line_of rest.new)) }
+    ensures shorter { OnOk result (length rest.new ≤ length rest.old) }
 {
-    let Level { before, opened } = level;
-    let opened = with_arm(opened, nodes, next)?;
-    Ok(Level { before, opened })
-}
-
-fn without_level(levels: Stack<Level>, nodes: DcList<Node>, _lined: Lined) -> Inside
-    ensures { result ≡ Inside.Body (record { levels = levels; nodes = nodes }) }
-{
-    Inside::Body(Body { levels, nodes })
-}
-
-fn with_level(alloc: Global, levels: Stack<Level>, level: Level) -> Result<Inside, NoMemory>
-    ensures { IfOk result (λ made. made ≡ Inside.Body (record { levels = level ∷ levels; nodes = [] })) }
-{
-    let mut levels = levels;
-    levels.push(level)?;
-    let nodes = DcList::new(alloc);
-    Ok(Inside::Body(Body { levels, nodes }))
-}
-
-fn armed_in(
-    alloc: Global,
-    levels: Stack<Level>,
-    level: Level,
-    nodes: DcList<Node>,
-    next: Lined,
-) -> Result<Inside, NoMemory>
-    ensures { IfOk result (λ made. made ≡ armed_from (level ∷ levels) nodes next) }
-{
-    match armed_level(level, nodes, next) {
-        Ok(level) => with_level(alloc, levels, level),
-        Err(NoMemory) => Err(NoMemory),
+    let mut nodes = DcList::new(alloc);
+    while is_node_next(rest) {
+        nodes.push(node(alloc, rest)?)?;
     }
+    Ok(Block { nodes })
 }
 
-fn armed_from(
-    alloc: Global,
-    levels: Stack<Level>,
-    nodes: DcList<Node>,
-    next: Lined,
-) -> Result<Inside, NoMemory>
-    ensures { IfOk result (λ made. made ≡ armed_from levels nodes next) }
+/// The statements in front of the executable ones.
+fn front(alloc: Global, rest: &mut Stack<Lined>) -> Result<DcList<Lined>, NoMemory>
+    ensures { IfOk result (λ front. ReadsFront (map line_of front) (map line_of rest.old) (map line_of rest.new)) }
 {
-    let mut levels = levels;
-    match levels.pop() {
-        None => Ok(without_level(levels, nodes, next)),
-        Some(level) => armed_in(alloc, levels, level, nodes, next),
+    let mut front = DcList::new(alloc);
+    while is_next(rest, Form::InFront) {
+        front.push(take(rest))?;
     }
+    Ok(front)
 }
 
-fn with_case(alloc: Global, head: Lined, case: Lined) -> Opened
-    ensures { result ≡ Opened.Select head [] case }
+fn unit(alloc: Global, rest: &mut Stack<Lined>) -> Result<OpenUnit, NoMemory>
+    requires { UnitAhead (map line_of rest.old) }
+    ensures { IfOk result (λ unit. ReadsUnit (line_of unit.head) (map line_of unit.front) (items unit.body) (map line_of rest.old) (map line_of rest.new)) }
 {
-    Opened::Select {
-        head,
-        arms: DcList::new(alloc),
-        case,
-    }
+    let head = take(rest);
+    let (head, front) = both(head, front(alloc, rest))?;
+    let ((head, front), body) = both((head, front), block(alloc, rest))?;
+    Ok(OpenUnit { head, front, body })
 }
 
-/// With the statement that begins another arm.
-fn armed(alloc: Global, inside: Inside, next: Lined) -> Result<Inside, NoMemory>
-    ensures { IfOk result (λ made. made ≡ armed inside next) }
+fn procedure(alloc: Global, rest: &mut Stack<Lined>) -> Result<Procedure, NoMemory>
+    requires { ProcedureAhead (map line_of rest.old) }
+    ensures { IfOk result (λ procedure. ReadsProcedure (subprogram_of procedure) (map line_of rest.old) (map line_of rest.new)) }
 {
-    match inside {
-        Inside::Front(front) => Ok(unchanged(Inside::Front(front), next)),
-        Inside::Body(body) => armed_from(alloc, body.levels, body.nodes, next),
-        Inside::Choosing(body, head) => within(alloc, body, with_case(alloc, head, next)),
-    }
-}
-
-fn closed(opened: Opened, nodes: DcList<Node>, close: Lined) -> Result<Node, NoMemory>
-    ensures { IfOk result (λ made. made ≡ closed opened nodes close) }
-{
-    match opened {
-        Opened::If { arms, head } => Ok(Node::If {
-            arms: with_part(arms, head, nodes)?,
-            close,
-        }),
-        Opened::Select { head, arms, case } => Ok(Node::Select {
-            head,
-            arms: with_part(arms, case, nodes)?,
-            close,
-        }),
-        Opened::Loop { head } => Ok(Node::Loop {
-            head,
-            body: Block { nodes },
-            close,
-        }),
-    }
-}
-
-fn closed_level(level: Level, nodes: DcList<Node>, close: Lined) -> Result<DcList<Node>, NoMemory>
-    ensures { IfOk result (λ made. made ≡ closed_level level nodes close) }
-{
-    let Level { mut before, opened } = level;
-    before.push(closed(opened, nodes, close)?)?;
-    Ok(before)
-}
-
-fn left_in(
-    levels: Stack<Level>,
-    level: Level,
-    nodes: DcList<Node>,
-    close: Lined,
-) -> Result<Inside, NoMemory>
-    ensures { IfOk result (λ made. made ≡ left_from (level ∷ levels) nodes close) }
-{
-    match closed_level(level, nodes, close) {
-        Ok(nodes) => Ok(Inside::Body(Body { levels, nodes })),
-        Err(NoMemory) => Err(NoMemory),
-    }
-}
-
-fn left_from(levels: Stack<Level>, nodes: DcList<Node>, close: Lined) -> Result<Inside, NoMemory>
-    ensures { IfOk result (λ made. made ≡ left_from levels nodes close) }
-{
-    let mut levels = levels;
-    match levels.pop() {
-        None => Ok(without_level(levels, nodes, close)),
-        Some(level) => left_in(levels, level, nodes, close),
-    }
-}
-
-fn without_case(alloc: Global, head: Lined, close: Lined) -> Node
-    ensures { result ≡ Select head [] close }
-{
-    Node::Select {
-        head,
-        arms: DcList::new(alloc),
-        close,
-    }
-}
-
-/// With the statement that ends the innermost construct.
-fn left(alloc: Global, inside: Inside, close: Lined) -> Result<Inside, NoMemory>
-    ensures { IfOk result (λ made. made ≡ left inside close) }
-{
-    match inside {
-        Inside::Front(front) => Ok(unchanged(Inside::Front(front), close)),
-        Inside::Body(body) => left_from(body.levels, body.nodes, close),
-        Inside::Choosing(body, head) => with_node(body, without_case(alloc, head, close)),
-    }
-}
-
-fn begun(alloc: Global, head: Lined, front: Front) -> UnitDraft
-    ensures { result ≡ begun head front }
-{
-    UnitDraft {
-        head,
-        front: DcList::new(alloc),
-        inside: Inside::Front(front),
-    }
-}
-
-fn with_front(unit: UnitDraft, lined: Lined, stage: Front) -> Result<UnitDraft, NoMemory>
-    ensures { IfOk result (λ made. made ≡ with_front unit lined stage) }
-{
-    let UnitDraft {
-        head,
-        mut front,
-        ..
-    } = unit;
-    front.push(lined)?;
-    Ok(UnitDraft {
+    let OpenUnit { head, front, body } = unit(alloc, rest)?;
+    let close = take(rest);
+    Ok(Procedure {
         head,
         front,
-        inside: Inside::Front(stage),
-    })
-}
-
-fn begins_if(alloc: Global, inside: Inside, lined: Lined) -> Result<Inside, NoMemory>
-    ensures { IfOk result (λ made. made ≡ put_body Form.BeginsIf inside lined) }
-{
-    let opened = Opened::If {
-        arms: DcList::new(alloc),
-        head: lined,
-    };
-    within(alloc, body_of(alloc, inside), opened)
-}
-
-fn begins_loop(alloc: Global, inside: Inside, lined: Lined) -> Result<Inside, NoMemory>
-    ensures { IfOk result (λ made. made ≡ put_body Form.BeginsLoop inside lined) }
-{
-    within(alloc, body_of(alloc, inside), Opened::Loop { head: lined })
-}
-
-fn begins_select(alloc: Global, inside: Inside, lined: Lined) -> Inside
-    ensures { result ≡ put_body Form.BeginsSelect inside lined }
-{
-    Inside::Choosing(body_of(alloc, inside), lined)
-}
-
-fn acts(alloc: Global, inside: Inside, lined: Lined) -> Result<Inside, NoMemory>
-    ensures { IfOk result (λ made. made ≡ put_body Form.Acts inside lined) }
-{
-    with_node(body_of(alloc, inside), Node::Plain(lined))
-}
-
-fn put_body(alloc: Global, says: Form, inside: Inside, lined: Lined) -> Result<Inside, NoMemory>
-    ensures { IfOk result (λ made. made ≡ put_body says inside lined) }
-{
-    match says {
-        Form::Acts => acts(alloc, inside, lined),
-        Form::BeginsIf => begins_if(alloc, inside, lined),
-        Form::BeginsSelect => Ok(begins_select(alloc, inside, lined)),
-        Form::BeginsLoop => begins_loop(alloc, inside, lined),
-        Form::BeginsElse | Form::BeginsCase => armed(alloc, inside, lined),
-        Form::EndsIf | Form::EndsSelect | Form::EndsLoop => left(alloc, inside, lined),
-        _ => Ok(unchanged(inside, lined)),
-    }
-}
-
-fn front_behind(stmt: &Stmt) -> Front
-    ensures { result ≡ front_behind (statement stmt.now) }
-{
-    match stmt {
-        Stmt::Use { .. } => Front::Uses,
-        _ => Front::Declarations,
-    }
-}
-
-fn unit_of(head: Lined, front: DcList<Lined>, inside: Inside) -> UnitDraft
-    ensures { result ≡ record { head = head; front = front; inside = inside } }
-{
-    UnitDraft {
-        head,
-        front,
-        inside,
-    }
-}
-
-fn no_unit(_head: Lined, _front: DcList<Lined>) -> Result<UnitDraft, NoMemory>
-    ensures { IfOk result (λ made. ⊥) }
-{
-    Err(NoMemory)
-}
-
-fn put_executable(
-    alloc: Global,
-    says: Form,
-    unit: UnitDraft,
-    lined: Lined,
-) -> Result<UnitDraft, NoMemory>
-    ensures { IfOk result (λ made. made ≡ record { head = unit.head; front = unit.front; inside = put_body says unit.inside lined }) }
-{
-    let UnitDraft {
-        head,
-        front,
-        inside,
-    } = unit;
-    match put_body(alloc, says, inside, lined) {
-        Ok(inside) => Ok(unit_of(head, front, inside)),
-        Err(NoMemory) => no_unit(head, front),
-    }
-}
-
-fn put_inside(
-    alloc: Global,
-    says: Form,
-    unit: UnitDraft,
-    lined: Lined,
-) -> Result<UnitDraft, NoMemory>
-    ensures { IfOk result (λ made. made ≡ put_inside says unit lined) }
-{
-    match says {
-        Form::InFront => {
-            let stage = front_behind(&lined.stmt);
-            with_front(unit, lined, stage)
-        }
-        _ => put_executable(alloc, says, unit, lined),
-    }
-}
-
-fn block_of(alloc: Global, inside: Inside) -> Block
-    ensures { result ≡ block_of inside }
-{
-    let Body { nodes, .. } = body_of(alloc, inside);
-    Block { nodes }
-}
-
-fn taken_line(lined: Lined) -> u32
-    ensures { result ≡ lined.line }
-{
-    lined.line
-}
-
-fn contained_at(alloc: Global, unit: UnitDraft, line: u32) -> Draft
-    ensures { result ≡ Draft.Between (record { head = unit.head; front = unit.front; body = block_of unit.inside; contains = line; procedures = [] }) }
-{
-    let UnitDraft {
-        head,
-        front,
-        inside,
-    } = unit;
-    Draft::Between(Outer {
-        head,
-        front,
-        body: block_of(alloc, inside),
-        contains: line,
-        procedures: DcList::new(alloc),
-    })
-}
-
-/// Behind CONTAINS.
-fn contained(alloc: Global, unit: UnitDraft, lined: Lined) -> Draft
-    ensures { result ≡ contained unit lined }
-{
-    contained_at(alloc, unit, taken_line(lined))
-}
-
-/// A program without CONTAINS.
-fn ended_alone(alloc: Global, unit: UnitDraft, close: Lined) -> Draft
-    ensures { result ≡ ended_alone unit close }
-{
-    let UnitDraft {
-        head,
-        front,
-        inside,
-    } = unit;
-    Draft::Ended(Program {
-        head,
-        front,
-        body: block_of(alloc, inside),
-        contains: None,
-        procedures: DcList::new(alloc),
+        body,
         close,
     })
 }
 
-fn ended_outer(outer: Outer, close: Lined) -> Draft
-    ensures { result ≡ ended_outer outer close }
+fn procedures(alloc: Global, rest: &mut Stack<Lined>) -> Result<DcList<Procedure>, NoMemory>
+    requires { ProceduresAhead (map line_of rest.old) }
+    ensures { IfOk result (λ made. ReadsProcedures (map subprogram_of made) (map line_of rest.old) (map line_of rest.new)) }
 {
-    let Outer {
+    let mut procedures = DcList::new(alloc);
+    while is_next(rest, Form::BeginsProcedure) {
+        procedures.push(procedure(alloc, rest)?)?;
+    }
+    Ok(procedures)
+}
+
+/// The line of CONTAINS, where it is next.
+fn contains(rest: &mut Stack<Lined>) -> Option<u32>
+    ensures reads { contains_lines result ++ map line_of rest.new ≡ map line_of rest.old }
+    ensures absent { result ≡ None → next_form (map line_of rest.new) ≡ Some Form.BeginsProcedures → ⊥ }
+{
+    if !is_next(rest, Form::BeginsProcedures) {
+        return None;
+    }
+    let lined = take(rest);
+    let line = lined.line;
+    drop(lined);
+    Some(line)
+}
+
+/// The tree of statements that are those of a program.
+pub(crate) fn program(alloc: Global, rest: &mut Stack<Lined>) -> Result<Program, NoMemory>
+    requires { ProgramAhead (map line_of rest.old) }
+    ensures { IfOk result (λ program. ReadsProgram (source_of program) (map line_of rest.old)) }
+{
+    let unit = unit(alloc, rest)?;
+    let contains = contains(rest);
+    let (unit, procedures) = both(unit, procedures(alloc, rest))?;
+    let OpenUnit { head, front, body } = unit;
+    let close = take(rest);
+    Ok(Program {
         head,
         front,
         body,
         contains,
         procedures,
-    } = outer;
-    Draft::Ended(Program {
-        head,
-        front,
-        body,
-        contains: Some(contains),
-        procedures,
         close,
     })
-}
-
-fn procedure_with(alloc: Global, unit: UnitDraft, close: Lined) -> Procedure
-    ensures { result ≡ procedure_with unit close }
-{
-    let UnitDraft {
-        head,
-        front,
-        inside,
-    } = unit;
-    Procedure {
-        head,
-        front,
-        body: block_of(alloc, inside),
-        close,
-    }
-}
-
-fn add_procedure(outer: &mut Outer, procedure: Procedure) -> Result<(), NoMemory>
-    ensures { OnOk result (outer.new ≡ with_procedure outer.old procedure) }
-{
-    outer.procedures.push(procedure)
-}
-
-fn still_open(outer: Outer) -> Draft
-    ensures { result ≡ Draft.Between outer }
-{
-    Draft::Between(outer)
-}
-
-fn no_draft(_outer: Outer) -> Result<Draft, NoMemory>
-    ensures { IfOk result (λ made. ⊥) }
-{
-    Err(NoMemory)
-}
-
-fn with_procedure(outer: Outer, procedure: Procedure) -> Result<Draft, NoMemory>
-    ensures { IfOk result (λ made. made ≡ Draft.Between (with_procedure outer procedure)) }
-{
-    let mut outer = outer;
-    match add_procedure(&mut outer, procedure) {
-        Ok(()) => Ok(still_open(outer)),
-        Err(NoMemory) => no_draft(outer),
-    }
-}
-
-fn put_main(alloc: Global, says: Form, unit: UnitDraft, lined: Lined) -> Result<Draft, NoMemory>
-    ensures { IfOk result (λ made. made ≡ put_main says unit lined) }
-{
-    match says {
-        Form::BeginsProcedures => Ok(contained(alloc, unit, lined)),
-        Form::EndsUnit => Ok(ended_alone(alloc, unit, lined)),
-        _ => Ok(Draft::Main(put_inside(alloc, says, unit, lined)?)),
-    }
-}
-
-fn heading(alloc: Global, outer: Outer, lined: Lined) -> Draft
-    ensures { result ≡ Draft.Inner outer (begun lined Front.Implicit) }
-{
-    Draft::Inner(outer, begun(alloc, lined, Front::Implicit))
-}
-
-fn still_between(outer: Outer, _lined: Lined) -> Draft
-    ensures { result ≡ Draft.Between outer }
-{
-    Draft::Between(outer)
-}
-
-fn put_between(alloc: Global, says: Form, outer: Outer, lined: Lined) -> Draft
-    ensures { result ≡ put_between says outer lined }
-{
-    match says {
-        Form::BeginsProcedure => heading(alloc, outer, lined),
-        Form::EndsUnit => ended_outer(outer, lined),
-        _ => still_between(outer, lined),
-    }
-}
-
-fn procedure_ended(
-    alloc: Global,
-    outer: Outer,
-    unit: UnitDraft,
-    lined: Lined,
-) -> Result<Draft, NoMemory>
-    ensures { IfOk result (λ made. made ≡ Draft.Between (with_procedure outer (procedure_with unit lined))) }
-{
-    with_procedure(outer, procedure_with(alloc, unit, lined))
-}
-
-fn inner(outer: Outer, unit: UnitDraft) -> Draft
-    ensures { result ≡ Draft.Inner outer unit }
-{
-    Draft::Inner(outer, unit)
-}
-
-fn still_inner(
-    alloc: Global,
-    says: Form,
-    outer: Outer,
-    unit: UnitDraft,
-    lined: Lined,
-) -> Result<Draft, NoMemory>
-    ensures { IfOk result (λ made. made ≡ Draft.Inner outer (put_inside says unit lined)) }
-{
-    match put_inside(alloc, says, unit, lined) {
-        Ok(unit) => Ok(inner(outer, unit)),
-        Err(NoMemory) => no_draft(outer),
-    }
-}
-
-fn put_inner(
-    alloc: Global,
-    says: Form,
-    outer: Outer,
-    unit: UnitDraft,
-    lined: Lined,
-) -> Result<Draft, NoMemory>
-    ensures { IfOk result (λ made. made ≡ put_inner says outer unit lined) }
-{
-    match says {
-        Form::EndsUnit => procedure_ended(alloc, outer, unit, lined),
-        _ => still_inner(alloc, says, outer, unit, lined),
-    }
-}
-
-fn still_outset(_lined: Lined) -> Draft
-    ensures { result ≡ Draft.Outset }
-{
-    Draft::Outset
-}
-
-fn still_ended(program: Program, _lined: Lined) -> Draft
-    ensures { result ≡ Draft.Ended program }
-{
-    Draft::Ended(program)
-}
-
-fn put_first(alloc: Global, says: Form, lined: Lined) -> Draft
-    ensures { result ≡ put_first says lined }
-{
-    match says {
-        Form::BeginsProgram => Draft::Main(begun(alloc, lined, Front::Uses)),
-        _ => still_outset(lined),
-    }
-}
-
-/// With one more statement.
-pub(crate) fn put(alloc: Global, draft: Draft, lined: Lined) -> Result<Draft, NoMemory>
-    ensures { IfOk result (λ made. made ≡ put draft lined) }
-{
-    let says = form_of(&lined.stmt);
-    match draft {
-        Draft::Outset => Ok(put_first(alloc, says, lined)),
-        Draft::Main(unit) => put_main(alloc, says, unit, lined),
-        Draft::Between(outer) => Ok(put_between(alloc, says, outer, lined)),
-        Draft::Inner(outer, unit) => put_inner(alloc, says, outer, unit, lined),
-        Draft::Ended(program) => Ok(still_ended(program, lined)),
-    }
 }

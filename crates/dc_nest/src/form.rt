@@ -6,7 +6,7 @@ ghost use Rattle.dc_nest.specs.Nested.{form_of};
 
 use dc_tree::Stmt;
 
-#[derive(Clone, Copy)]
+#[derive(Clone, Copy, PartialEq, Eq)]
 pub(crate) enum Form {
     BeginsProgram,
     /// USE, IMPLICIT NONE, or a declaration.

@@ -7,7 +7,8 @@ pub fn a_list_nests_to_one_program()
     ensures { IsOneTree }
 {}
 
-/// Statements that break no rule are those of a program.
+/// Statements that break no rule are those of a program. This is a law of the definitions' trees,
+/// for any list of lines, also one that no `Lined` has; of a list of `Lined`, `nest` gives the tree.
 pub fn an_unbroken_list_nests()
     ensures { IsSomeTree }
 {}

@@ -4,7 +4,6 @@
 mod allowing;
 mod breaking;
 mod building;
-mod draft;
 mod form;
 mod judging;
 mod law;
@@ -17,5 +16,3 @@ mod stack;
 pub use law::{a_list_nests_to_one_program, an_unbroken_list_nests, the_first_refusal_is_one};
 pub use nesting::nest;
 
-#[cfg(test)]
-mod tests;

@@ -1,42 +1,25 @@
 //! From a list of statements to the tree of its program.
 
-ghost use Rattle.std.specs.Prelude.{◌≡◌, None, map, IfOk};
+ghost use Rattle.std.specs.Prelude.{◌≡◌, None, map};
 ghost use Rattle.dc_tree.specs.Blocks.{line_of};
 ghost use Rattle.dc_nest.specs.declared.place.Place.{Place};
-ghost use Rattle.dc_nest.specs.declared.draft.Draft.{Draft};
-ghost use Rattle.dc_nest.specs.Drafts.{put_all};
 ghost use Rattle.dc_nest.specs.Judging.{judged};
 ghost use Rattle.dc_nest.specs.Answer.{Answers};
 
-use crate::building::put;
-use crate::draft::Draft;
+use crate::building::program;
 use crate::judging::judge;
 use crate::stack::Stack;
-use dc_text::{DcList, NoMemory};
+use dc_text::DcList;
 use dc_tree::{Fail, Lined, Program};
 use std::alloc::Global;
-
-fn drafted(alloc: Global, list: DcList<Lined>) -> Result<Draft, NoMemory>
-    ensures { IfOk result (λ draft. draft ≡ put_all Draft.Outset list) }
-{
-    let mut rest = Stack::from_list(list);
-    let mut draft = Draft::Outset;
-    while let Some(lined) = rest.pop() {
-        draft = put(alloc, draft, lined)?;
-    }
-    Ok(draft)
-}
 
 /// The tree of statements that break no rule. So no more than 64 constructs are open.
 fn build(alloc: Global, list: DcList<Lined>) -> Result<Program, Fail>
     requires { judged None Place.Outset 1 (map line_of list) ≡ None }
     ensures { Answers list result }
 {
-    let draft = drafted(alloc, list)?;
-    match draft {
-        Draft::Ended(program) => Ok(program),
-        _ => unreachable!(),
-    }
+    let mut rest = Stack::from_list(list);
+    Ok(program(alloc, &mut rest)?)
 }
 
 /// Gives the program whose statements in the order of its text are these, or the first rule of

@@ -1,5 +1,5 @@
-use Rattle.dc_nest.proofs.Made.{some-program}
+use Rattle.dc_nest.proofs.Made.{some-source}
 use Rattle.dc_nest.proofs.law.an_unbroken_list_nests.Goals as goal
 
 pub returns : goal.returns
-returns c = some-program
+returns c = some-source

@@ -1,9 +1,13 @@
-use Rattle.std.proofs.Common.{sym, ◌∙◌}
-use Rattle.dc_nest.proofs.Made.{nests, never-open}
+use Rattle.std.proofs.Common.{map, sym, subst}
+use Rattle.dc_tree.specs.Blocks.{line_of, source_of}
+use Rattle.dc_nest.specs.Ahead.{ReadsProgram, ProgramAhead}
+use Rattle.dc_nest.proofs.Made.{unbroken-ahead, nests}
 use Rattle.dc_nest.proofs.nesting.build.Goals as goal
 
-pub returns : goal.returns
-returns c = nests c.args.list c.in-Ended.program c.requires (sym c.in_ok-draft.ensures ∙ c.in-Ended.is)
+pub program-requires : goal.program-requires
+program-requires c = subst (λ list. ProgramAhead (map line_of list)) (sym c.from_list-rest.ensures) (unbroken-ahead (map line_of c.args.list) c.requires)
 
-pub unreachable-requires : goal.unreachable-requires
-unreachable-requires c = never-open c.args.list c.requires (λ program made. c.in_default.not-Ended program (c.in_ok-draft.ensures ∙ made))
+pub returns : goal.returns
+returns c =
+    let source = source_of c.in_ok-program.field-0 in
+    nests (map line_of c.args.list) source c.requires (subst (λ list. ReadsProgram source (map line_of list)) c.from_list-rest.ensures c.in_ok-program.ensures)
