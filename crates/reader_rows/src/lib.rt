@@ -8,6 +8,8 @@ mod lexemes;
 #[cfg(test)]
 mod lines;
 #[cfg(test)]
+mod nesting;
+#[cfg(test)]
 mod showing;
 #[cfg(test)]
 mod values;
