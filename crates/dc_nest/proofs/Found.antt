@@ -1,5 +1,5 @@
 -- A list of statements each of which is allowed where it stands, and of which the last ends the program, is that of a program.
-use Rattle.std.proofs.Common.{◌≡◌, ℕ, Bool, true, false, ◌&&◌, List, [], ◌∷◌, ◌++◌, All, Option, None, Some, refl, sym, ap, subst, ◌∙◌, append_assoc}
+use Rattle.std.proofs.Common.{◌≡◌, ℕ, true, false, List, [], ◌∷◌, ◌++◌, All, Option, None, Some, refl, sym, ap, ◌∙◌, append_assoc}
 use Rattle.std.specs.Prelude.{flat_map}
 use Rattle.std.proofs.lemmas.Bool.{false≢true, and_parts}
 use Rattle.std.proofs.lemmas.List.Elements.{All-cons, All-nil}
@@ -7,18 +7,17 @@ use Rattle.std.specs.Option.{option_map_or}
 use Rattle.dc_tree.specs.Statements.{Name, Statement, program_line, use_line, implicit_none, declare, contains_line, procedure_line, end_line}
 use Rattle.dc_tree.specs.Statements.{if_then, else_if, else_line, end_if, if_action, select_case, case, case_default, end_select}
 use Rattle.dc_tree.specs.Statements.{do_line, do_while, concurrent, end_do, act}
-use Rattle.dc_tree.specs.Blocks.{Line, Item, Items, Arms, plain, branch, select, loop, none, and_then, no_arms, arm, Subprogram, Source}
-use Rattle.dc_tree.specs.Listing.{item_lines, lines_of, arm_lines, contains_lines, subprogram_lines, listed}
+use Rattle.dc_tree.specs.Blocks.{Line, Items, Arms, plain, branch, select, loop, none, and_then, no_arms, arm, Subprogram}
+use Rattle.dc_tree.specs.Listing.{lines_of, arm_lines, contains_lines, subprogram_lines}
 use Rattle.dc_nest.specs.declared.form.Form.{Form}
 use Rattle.dc_nest.specs.declared.place.Construct.{Construct}
 use Rattle.dc_nest.specs.declared.place.Heading.{Heading}
-use Rattle.dc_nest.specs.declared.place.Scope.{Scope}
 use Rattle.dc_nest.specs.declared.place.Position.{Position}
 use Rattle.dc_nest.specs.declared.place.Place.{Place}
-use Rattle.dc_nest.specs.Places.{open_in, directly_in, is_if, is_before_else, is_select, is_loop, may_use, may_be_implicit, may_declare, may_execute, is_closed, known, outside, is_program, ends, allows_inside, allows, behind_inside, behind_end, behind, is_ended}
+use Rattle.dc_nest.specs.Places.{open_in, directly_in, is_if, is_before_else, is_select, is_loop, may_use, may_be_implicit, may_declare, may_execute, is_closed, known, outside, is_program, ends, allows_inside, allows, behind_inside, behind_end, behind}
 use Rattle.dc_nest.specs.Judging.{is_whole}
-use Rattle.dc_nest.specs.Nested.{form_of, Is, IsNestedItem, AreNested, IsBranch, AreArms, IsNestedSubprogram, AreContained, IsNested}
-use Rattle.dc_nest.specs.Ahead.{ReadsProgram, ProgramAhead}
+use Rattle.dc_nest.specs.Nested.{Is, AreNested, AreArms, IsNestedSubprogram, AreContained}
+use Rattle.dc_nest.specs.Ahead.{ProgramAhead}
 
 -- ---- what is left of a text: the rest of a block, of the constructs around it, and of the unit
 

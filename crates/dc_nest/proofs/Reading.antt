@@ -1,18 +1,18 @@
 -- What is read of statements ahead is what stands there, and what is left behind it can be read on.
-use Rattle.std.proofs.Common.{◌≡◌, ℕ, Bool, true, false, List, [], ◌∷◌, ◌++◌, map, All, Option, None, Some, refl, sym, ap, subst, ◌∙◌, append_assoc}
+use Rattle.std.proofs.Common.{◌≡◌, true, false, List, [], ◌∷◌, ◌++◌, map, Option, None, Some, refl, sym, ap, subst, ◌∙◌, append_assoc}
 use Rattle.std.proofs.lemmas.Bool.{false≢true}
 use Rattle.std.proofs.lemmas.List.{append-nil, map-append}
 use Rattle.dc_tree.specs.declared.program.Lined.{Lined}
 use Rattle.dc_tree.specs.declared.program.Block.{Block, roll-Block}
 use Rattle.dc_tree.specs.declared.program.Node.{Node, Plain, If, Select, Loop}
-use Rattle.dc_tree.specs.declared.program.Part.{Part, roll-Part, out-Part, fold_out-Part}
+use Rattle.dc_tree.specs.declared.program.Part.{Part, roll-Part, fold_out-Part}
 use Rattle.dc_tree.specs.Blocks.{Line, Item, Items, Arms, plain, branch, select, loop, none, and_then, no_arms, arm, items_from, arms_from, line_of, item, items, part_items, item_step, items_step, part_step}
 use Rattle.dc_tree.specs.Listing.{item_lines, lines_of, arm_lines}
 use Rattle.dc_tree.proofs.Views.{items-Block, item-Plain, item-If, item-Select, item-Loop, part_items-Part}
 use Rattle.dc_nest.specs.declared.form.Form.{Form}
-use Rattle.dc_nest.specs.Nested.{form_of, Is, IsNestedItem, AreNested, IsBranch, AreArms}
+use Rattle.dc_nest.specs.Nested.{form_of, Is, IsNestedItem, AreNested, AreArms}
 use Rattle.dc_nest.specs.Ahead.{next_form, begins_node, is_node_next, ReadsItem, ReadsBlock, ReadsPart, ReadsArms, AddsArms, ItemAhead, BlockAhead, PartAhead, ArmsAhead}
-use Rattle.dc_nest.proofs.Unique.{Same, BeginsNone, Stops, item_form, begins, same-first, same-rest, some-form, one-block, one-item, one-arms, Behind}
+use Rattle.dc_nest.proofs.Unique.{BeginsNone, Stops, item_form, begins, same-first, same-rest, some-form, one-block, one-item, one-arms, Behind}
 
 -- ---- which statement is next
 

@@ -4,13 +4,12 @@ use Rattle.std.specs.Prelude.{flat_map}
 use Rattle.std.proofs.lemmas.List.{append-nil, map-append, length-map}
 use Rattle.std.proofs.lemmas.List.Elements.{All-head, All-tail, All-nil, All-push}
 use Rattle.dc_tree.specs.declared.program.Lined.{Lined}
-use Rattle.dc_tree.specs.declared.program.Block.{Block}
 use Rattle.dc_tree.specs.declared.program.Procedure.{Procedure}
-use Rattle.dc_tree.specs.Statements.{Statement, contains_line}
-use Rattle.dc_tree.specs.Blocks.{Line, Items, Subprogram, Source, line_of, items, subprogram_of}
-use Rattle.dc_tree.specs.Listing.{lines_of, contains_lines, subprogram_lines, listed}
+use Rattle.dc_tree.specs.Statements.{contains_line}
+use Rattle.dc_tree.specs.Blocks.{Line, Items, Subprogram, line_of, subprogram_of}
+use Rattle.dc_tree.specs.Listing.{lines_of, contains_lines, subprogram_lines}
 use Rattle.dc_nest.specs.declared.form.Form.{Form}
-use Rattle.dc_nest.specs.Nested.{form_of, Is, AreNested, IsNestedSubprogram, AreContained, IsNested}
+use Rattle.dc_nest.specs.Nested.{form_of, Is, AreNested, IsNestedSubprogram, AreContained}
 use Rattle.dc_nest.specs.Ahead.{next_form, begins_node, is_node_next, ReadsBlock, ReadsFront, ReadsUnit, ReadsProcedure, ReadsProcedures, ReadsProgram, BlockAhead, UnitAhead, ProcedureAhead, ProceduresAhead, ProgramAhead}
 use Rattle.dc_nest.proofs.Unique.{EndsFront, EndsBody, contained_lines, same-first, same-rest, some-form, one-block, one-front, body-ends, one-inside, end-ends, one-procedure, one-procedures, contained-ends, end-procedure}
 use Rattle.dc_nest.proofs.Reading.{stops-of, some-ahead}

@@ -71,7 +71,8 @@ fn both<A: Drop, B>(first: A, second: Result<B, NoMemory>) -> Result<(A, B), NoM
 #[cycle(building)]
 fn part(alloc: Global, rest: &mut Stack<Lined>) -> Result<Part, NoMemory>
     requires { PartAhead (map line_of rest.old) }
-    ensures reads { IfOk result (λ part. ReadsPart (part_items part) (map line_of rest.old) (map line_of rest.new)) }
+    ensures reads { IfOk result
+        (λ part. ReadsPart (part_items part) (map line_of rest.old) (map line_of rest.new)) }
     ensures shorter { OnOk result (length rest.new < length rest.old) }
 {
     let head = take(rest);
@@ -88,7 +89,9 @@ fn with_arms(
     arms: DcList<Part>,
 ) -> Result<DcList<Part>, NoMemory>
     requires { ArmsAhead wanted (map line_of rest.old) }
-    ensures reads { IfOk result (λ made. AddsArms wanted (map part_items arms) (map part_items made) (map line_of rest.old) (map line_of rest.new)) }
+    ensures reads { IfOk result
+        (λ made. AddsArms wanted (map part_items arms) (map part_items made)
+        (map line_of rest.old) (map line_of rest.new)) }
     ensures shorter { OnOk result (length rest.new ≤ length rest.old) }
 {
     let mut arms = arms;
@@ -102,7 +105,8 @@ fn with_arms(
 fn branch(alloc: Global, rest: &mut Stack<Lined>) -> Result<Node, NoMemory>
     requires ahead { ItemAhead (map line_of rest.old) }
     requires begins { next_form (map line_of rest.old) ≡ Some Form.BeginsIf }
-    ensures reads { IfOk result (λ node. ReadsItem (item node) (map line_of rest.old) (map line_of rest.new)) }
+    ensures reads { IfOk result
+        (λ node. ReadsItem (item node) (map line_of rest.old) (map line_of rest.new)) }
     ensures shorter { OnOk result (length rest.new < length rest.old) }
 {
     let mut arms = DcList::new(alloc);
@@ -116,11 +120,15 @@ fn branch(alloc: Global, rest: &mut Stack<Lined>) -> Result<Node, NoMemory>
 fn selection(alloc: Global, rest: &mut Stack<Lined>) -> Result<Node, NoMemory>
     requires ahead { ItemAhead (map line_of rest.old) }
     requires begins { next_form (map line_of rest.old) ≡ Some Form.BeginsSelect }
-    ensures reads { IfOk result (λ node. ReadsItem (item node) (map line_of rest.old) (map line_of rest.new)) }
+    ensures reads { IfOk result
+        (λ node. ReadsItem (item node) (map line_of rest.old) (map line_of rest.new)) }
     ensures shorter { OnOk result (length rest.new < length rest.old) }
 {
     let head = take(rest);
-    let (head, arms) = both(head, with_arms(alloc, rest, Form::BeginsCase, DcList::new(alloc)))?;
+    let (head, arms) = both(
+        head,
+        with_arms(alloc, rest, Form::BeginsCase, DcList::new(alloc)),
+    )?;
     let close = take(rest);
     Ok(Node::Select { head, arms, close })
 }
@@ -129,7 +137,8 @@ fn selection(alloc: Global, rest: &mut Stack<Lined>) -> Result<Node, NoMemory>
 fn looping(alloc: Global, rest: &mut Stack<Lined>) -> Result<Node, NoMemory>
     requires ahead { ItemAhead (map line_of rest.old) }
     requires begins { next_form (map line_of rest.old) ≡ Some Form.BeginsLoop }
-    ensures reads { IfOk result (λ node. ReadsItem (item node) (map line_of rest.old) (map line_of rest.new)) }
+    ensures reads { IfOk result
+        (λ node. ReadsItem (item node) (map line_of rest.old) (map line_of rest.new)) }
     ensures shorter { OnOk result (length rest.new < length rest.old) }
 {
     let Part { head, body } = part(alloc, rest)?;
@@ -140,7 +149,8 @@ fn looping(alloc: Global, rest: &mut Stack<Lined>) -> Result<Node, NoMemory>
 #[cycle(building)]
 fn node(alloc: Global, rest: &mut Stack<Lined>) -> Result<Node, NoMemory>
     requires { ItemAhead (map line_of rest.old) }
-    ensures reads { IfOk result (λ node. ReadsItem (item node) (map line_of rest.old) (map line_of rest.new)) }
+    ensures reads { IfOk result
+        (λ node. ReadsItem (item node) (map line_of rest.old) (map line_of rest.new)) }
     ensures shorter { OnOk result (length rest.new < length rest.old) }
 {
     match next_form(rest) {
@@ -154,7 +164,8 @@ fn node(alloc: Global, rest: &mut Stack<Lined>) -> Result<Node, NoMemory>
 #[cycle(building)]
 fn block(alloc: Global, rest: &mut Stack<Lined>) -> Result<Block, NoMemory>
     requires { BlockAhead (map line_of rest.old) }
-    ensures reads { IfOk result (λ body. ReadsBlock (items body) (map line_of rest.old) (map line_of rest.new)) }
+    ensures reads { IfOk result
+        (λ body. ReadsBlock (items body) (map line_of rest.old) (map line_of rest.new)) }
     ensures shorter { OnOk result (length rest.new ≤ length rest.old) }
 {
     let mut nodes = DcList::new(alloc);
@@ -166,7 +177,8 @@ fn block(alloc: Global, rest: &mut Stack<Lined>) -> Result<Block, NoMemory>
 
 /// The statements in front of the executable ones.
 fn front(alloc: Global, rest: &mut Stack<Lined>) -> Result<DcList<Lined>, NoMemory>
-    ensures { IfOk result (λ front. ReadsFront (map line_of front) (map line_of rest.old) (map line_of rest.new)) }
+    ensures { IfOk result
+        (λ front. ReadsFront (map line_of front) (map line_of rest.old) (map line_of rest.new)) }
 {
     let mut front = DcList::new(alloc);
     while is_next(rest, Form::InFront) {
@@ -177,7 +189,9 @@ fn front(alloc: Global, rest: &mut Stack<Lined>) -> Result<DcList<Lined>, NoMemo
 
 fn unit(alloc: Global, rest: &mut Stack<Lined>) -> Result<OpenUnit, NoMemory>
     requires { UnitAhead (map line_of rest.old) }
-    ensures { IfOk result (λ unit. ReadsUnit (line_of unit.head) (map line_of unit.front) (items unit.body) (map line_of rest.old) (map line_of rest.new)) }
+    ensures { IfOk result
+        (λ unit. ReadsUnit (line_of unit.head) (map line_of unit.front) (items unit.body)
+        (map line_of rest.old) (map line_of rest.new)) }
 {
     let head = take(rest);
     let (head, front) = both(head, front(alloc, rest))?;
@@ -187,7 +201,9 @@ fn unit(alloc: Global, rest: &mut Stack<Lined>) -> Result<OpenUnit, NoMemory>
 
 fn procedure(alloc: Global, rest: &mut Stack<Lined>) -> Result<Procedure, NoMemory>
     requires { ProcedureAhead (map line_of rest.old) }
-    ensures { IfOk result (λ procedure. ReadsProcedure (subprogram_of procedure) (map line_of rest.old) (map line_of rest.new)) }
+    ensures { IfOk result
+        (λ procedure. ReadsProcedure (subprogram_of procedure)
+        (map line_of rest.old) (map line_of rest.new)) }
 {
     let OpenUnit { head, front, body } = unit(alloc, rest)?;
     let close = take(rest);
@@ -201,7 +217,9 @@ fn procedure(alloc: Global, rest: &mut Stack<Lined>) -> Result<Procedure, NoMemo
 
 fn procedures(alloc: Global, rest: &mut Stack<Lined>) -> Result<DcList<Procedure>, NoMemory>
     requires { ProceduresAhead (map line_of rest.old) }
-    ensures { IfOk result (λ made. ReadsProcedures (map subprogram_of made) (map line_of rest.old) (map line_of rest.new)) }
+    ensures { IfOk result
+        (λ made. ReadsProcedures (map subprogram_of made)
+        (map line_of rest.old) (map line_of rest.new)) }
 {
     let mut procedures = DcList::new(alloc);
     while is_next(rest, Form::BeginsProcedure) {
@@ -213,7 +231,8 @@ fn procedures(alloc: Global, rest: &mut Stack<Lined>) -> Result<DcList<Procedure
 /// The line of CONTAINS, where it is next.
 fn contains(rest: &mut Stack<Lined>) -> Option<u32>
     ensures reads { contains_lines result ++ map line_of rest.new ≡ map line_of rest.old }
-    ensures absent { result ≡ None → next_form (map line_of rest.new) ≡ Some Form.BeginsProcedures → ⊥ }
+    ensures absent { result ≡ None →
+        next_form (map line_of rest.new) ≡ Some Form.BeginsProcedures → ⊥ }
 {
     if !is_next(rest, Form::BeginsProcedures) {
         return None;

@@ -15,4 +15,3 @@ mod stack;
 
 pub use law::{a_list_nests_to_one_program, an_unbroken_list_nests, the_first_refusal_is_one};
 pub use nesting::nest;
-

@@ -1,4 +1,4 @@
-use Rattle.std.proofs.Common.{◌≡◌, ◌+◌, ◌*◌, ◌≤◌, length, map}
+use Rattle.std.proofs.Common.{◌+◌, ◌*◌, ◌≤◌, length, map}
 use Rattle.dc_tree.specs.Blocks.{line_of, part_items}
 use Rattle.dc_nest.specs.Ahead.{BlockAhead, ArmsAhead}
 use Rattle.dc_nest.proofs.Reading.{HasRead, HasArms}

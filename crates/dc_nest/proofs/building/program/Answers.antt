@@ -1,9 +1,9 @@
-use Rattle.std.proofs.Common.{◌≡◌, map, Ok, sym, ap, subst, ◌∙◌}
+use Rattle.std.proofs.Common.{map, sym, ap, subst}
 use Rattle.std.specs.Prelude.{IfOk}
 use Rattle.dc_tree.specs.Blocks.{line_of, items, subprogram_of}
 use Rattle.dc_nest.specs.declared.building.OpenUnit.{OpenUnit}
 use Rattle.dc_nest.specs.Ahead.{ReadsUnit, ReadsProcedures}
-use Rattle.dc_nest.proofs.Units.{ReadsContains, program-unit, program-procedures, procedures-some, program-read}
+use Rattle.dc_nest.proofs.Units.{program-unit, program-procedures, procedures-some, program-read}
 use Rattle.dc_nest.proofs.building.program.Goals as goal
 
 pub unit-requires : goal.unit-requires

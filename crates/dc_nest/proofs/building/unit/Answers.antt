@@ -1,4 +1,4 @@
-use Rattle.std.proofs.Common.{◌≡◌, ◌∷◌, map, Ok, sym, ap, subst, ◌∙◌}
+use Rattle.std.proofs.Common.{◌≡◌, map, sym, ap, subst, ◌∙◌}
 use Rattle.std.specs.Prelude.{IfOk}
 use Rattle.dc_tree.specs.Blocks.{line_of, items}
 use Rattle.dc_nest.specs.Ahead.{ReadsFront, ReadsBlock, ReadsUnit}
