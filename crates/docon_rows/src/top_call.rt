@@ -71,8 +71,16 @@ fn refusals(rt: HostRuntime) -> Result<(), Fail> {
 fn free_form(rt: HostRuntime) -> Result<(), Fail> {
     let table = [
         ("", "", "refused: line 1: K13\n"),
-        ("program p\ninteger :: i\ndo concurrent (\n", "", "refused: line 3: K11\n"),
-        ("program p\ninteger :: a\na = 1\nprint *, a\n", "", "refused: line 4: K13\n"),
+        (
+            "program p\ninteger :: i\ndo concurrent (\n",
+            "",
+            "refused: line 3: K11\n",
+        ),
+        (
+            "program p\ninteger :: a\na = 1\nprint *, a\n",
+            "",
+            "refused: line 4: K13\n",
+        ),
         (
             "program p\ninteger :: i\ndo concurrent (i = 1:3)\nexit\nend do\nend program p\n",
             "",

@@ -44,7 +44,10 @@ const READ: [(&[u8], &[u8]); 14] = [
     (b".true. .FALSE.", b".true. .false. "),
     (b"12 1_8 1_Int8 007_04", b"12 1_#8 1_int8 007_#04 "),
     (b"A_1 b2c", b"a_1 b2c "),
-    (b"'it''s' \"it's\" \"a\"\"b\" ''", b"'it's' 'it's' 'a\"b' '' "),
+    (
+        b"'it''s' \"it's\" \"a\"\"b\" ''",
+        b"'it's' 'it's' 'a\"b' '' ",
+    ),
     (
         b"enddo EndIf elseif endprogram",
         b"end do end if else if end program ",

@@ -1,7 +1,9 @@
 //! A program with every construct nests to one tree, and a missing end is told on its line.
 use dc_nest::nest;
 use dc_text::{DcList, DcText, NoMemory};
-use dc_tree::{Action, Block, Counted, Expr, Fail, Lined, Node, Refusal, Stmt, TypeSpec, Unit, UseForm};
+use dc_tree::{
+    Action, Block, Counted, Expr, Fail, Lined, Node, Refusal, Stmt, TypeSpec, Unit, UseForm,
+};
 use std::alloc::Global;
 use std::test;
 
@@ -110,10 +112,24 @@ fn selection(alloc: Global, list: &mut DcList<Lined>) -> Result<(), NoMemory> {
 /// Lines 17 to 24: a counted DO and DO WHILE in it, then DO, and DO CONCURRENT.
 fn loops(alloc: Global, list: &mut DcList<Lined>) -> Result<(), NoMemory> {
     put(list, 17, counted(alloc)?)?;
-    put(list, 18, Stmt::DoWhile { label: None, test: yes() })?;
+    put(
+        list,
+        18,
+        Stmt::DoWhile {
+            label: None,
+            test: yes(),
+        },
+    )?;
     put(list, 19, Stmt::EndDo(None))?;
     put(list, 20, Stmt::EndDo(None))?;
-    put(list, 21, Stmt::Do { label: None, counted: None })?;
+    put(
+        list,
+        21,
+        Stmt::Do {
+            label: None,
+            counted: None,
+        },
+    )?;
     put(list, 22, Stmt::EndDo(None))?;
     put(list, 23, concurrent(alloc))?;
     put(list, 24, Stmt::EndDo(None))
@@ -142,9 +158,7 @@ fn statements(alloc: Global) -> Result<DcList<Lined>, NoMemory> {
 /// Whether a node is an IF construct of three arms with a statement each.
 fn is_branch(node: Option<&Node>) -> bool {
     match node {
-        Some(Node::If { arms, close }) => {
-            arms.len() == 3 && close.line == 11
-        }
+        Some(Node::If { arms, close }) => { arms.len() == 3 && close.line == 11 }
         _ => false,
     }
 }
