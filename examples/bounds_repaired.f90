@@ -1,4 +1,4 @@
-program b
+program q
   integer :: a(4), b(4), i
   a = 1
   print *, a
@@ -7,4 +7,4 @@ program b
     b(i) = a(i+1)
   end do
   print *, b
-end program b
+end program q
