@@ -1,6 +1,6 @@
 -- From what the walker answers for a block to the passage of an iteration.
 use Rattle.std.proofs.Common.{◌≡◌, ℕ, suc, Bool, true, false, ◌&&◌, List, [], ◌∷◌, ◌++◌, map, Option, Some, None, refl, sym, ap, subst, ◌∙◌, append_assoc, append-nil}
-use Rattle.std.specs.Prelude.{Result, Ok, Err, IfOk, ℤ, slice_get}
+use Rattle.std.specs.Prelude.{Result, Ok, Err, IfOk, ℤ, slice_get, is_some}
 use Rattle.std.proofs.lemmas.Bool.{and_parts, false≢true}
 use Rattle.std.proofs.lemmas.Option.{none-some, same_Some}
 use Rattle.dc_int.specs.Entries.{Reads, Defines, Undefines, Contributes, accesses_of, last_states, contributions_of}
@@ -24,7 +24,7 @@ use Rattle.dc_meaning.specs.Concurrent.{Concurrent}
 use Rattle.dc_meaning.specs.Execution.{exec_all}
 use Rattle.dc_meaning.specs.Headers.{inside_frame, form_of}
 use Rattle.dc_meaning.specs.Numbering.{loops_of_all, no_loop}
-use Rattle.dc_meaning.specs.Programs.{surroundings, program_forms}
+use Rattle.dc_meaning.specs.Programs.{surroundings, program_forms, program_loops}
 use Rattle.dc_meaning.specs.Telling.{IsTold}
 use Rattle.dc_meaning.specs.Values.{Callee}
 use Rattle.dc_meaning.specs.Views.{store_with}
@@ -167,6 +167,15 @@ module _ (symbols : List Symbol) (source : Source) (form : is_small_program symb
 
   pub found-at : (turns : ℕ) → IsLoop (main_scope symbols) (loops-in symbols source turns) number (nth_loop number source.body)
   found-at turns = loop-found (surroundings symbols source turns) (main_scope symbols) 0 number source.body items-small
+
+  -- There is such a loop where the walker finds one.
+  pub some-loop : (turns : ℕ) → is_some (nth_loop number source.body) ≡ is_some (slice_get (program_loops symbols source turns) number)
+  some-loop turns = by (nth_loop number source.body) (found-at turns)
+    where
+      by : (found : Option (Line × Items)) → IsLoop (main_scope symbols) (loops-in symbols source turns) number found
+          → is_some found ≡ is_some (slice_get (program_loops symbols source turns) number)
+      by None at = sym (ap is_some at)
+      by (Some found) at = sym (ap is_some at.at)
 
   pub loop-at : (turns : ℕ) (head : Line) (body : Items) → Some (head, body) ≡ nth_loop number source.body → LoopAt (main_scope symbols) (loops-in symbols source turns) number head body
   loop-at turns head body is = subst (IsLoop (main_scope symbols) (loops-in symbols source turns) number) (sym is) (found-at turns)

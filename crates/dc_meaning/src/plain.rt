@@ -1,13 +1,15 @@
 //! A loop of a program, judged by itself over given states.
 
-ghost use Rattle.std.specs.Prelude.{◌≡◌, ◌≤◌, length, is_some, None, IfOk};
+ghost use Rattle.std.specs.Prelude.{◌≡◌, ◌≤◌, ℕ, List, length, slice_get, is_some, None, true, IfOk};
 ghost use Rattle.dc_code.specs.Loops.{Loop};
+ghost use Rattle.dc_tree.specs.declared.symbols.Symbol.{Symbol};
 ghost use Rattle.dc_tree.specs.Blocks.{source_of};
-ghost use Rattle.dc_meaning.specs.Alone.{nth_loop};
+ghost use Rattle.dc_tree.specs.SmallPrograms.{is_small_program};
 ghost use Rattle.dc_meaning.specs.Judging.{IsTask, bad_of, runs_of};
 ghost use Rattle.dc_meaning.specs.Marks.{blank_marks, marked_runs};
 ghost use Rattle.dc_meaning.specs.MarkViews.{marks_of, FitStore};
 ghost use Rattle.dc_meaning.specs.PlainVerdicts.{IsJudgeable, IsSaid};
+ghost use Rattle.dc_meaning.specs.Programs.{program_loops};
 ghost use Rattle.dc_meaning.specs.Views.{store_with};
 ghost use Rattle.dc_meaning.specs.Visiting.{loop_parts};
 
@@ -97,9 +99,11 @@ fn told_of_loop(
     }
 }
 
-/// Whether a program has a loop of this number, counted from 0 in the order of the text.
+/// Whether a program that can be run today has a loop of this number, counted from 0 in the order of the
+/// text.
 pub fn has_loop(program: &Program, construct: u32) -> bool
-    ensures { result ≡ is_some (nth_loop construct (source_of program.now).body) }
+    ensures { (symbols : List Symbol) (turns : ℕ) → is_small_program symbols (source_of program.now) ≡ true
+        → result ≡ is_some (slice_get (program_loops symbols (source_of program.now) turns) construct) }
 {
     nth_loop(program.body.nodes.as_slice(), construct).is_some()
 }
