@@ -1,3 +1,5 @@
+//! Laws of computations.
+
 ghost use Rattle.std.specs.Prelude.{◌≡◌, ◌⊎◌, List, true, false};
 ghost use Rattle.dc_int.specs.declared.access.ElementId.{ElementId};
 ghost use Rattle.dc_int.specs.declared.variable.Locality.{Locality};

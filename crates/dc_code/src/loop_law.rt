@@ -1,3 +1,5 @@
+//! Laws of loops.
+
 ghost use Rattle.std.specs.Prelude.{◌≡◌, [], ◌∷◌, List, Some, ℤ, ℕ, true};
 ghost use Rattle.std.specs.List.Sorted.{IsPermutation};
 ghost use Rattle.dc_int.specs.declared.access.ElementId.{ElementId};

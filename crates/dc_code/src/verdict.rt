@@ -1,3 +1,5 @@
+//! `Verdict`, `Race` and `Party`, by which code answers.
+
 use dc_int::{Action, ElementId, FaultKind, Why};
 use dc_text::DcList;
 

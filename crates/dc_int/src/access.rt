@@ -1,3 +1,5 @@
+//! `ElementId`, `Access`, `Contribution`, `Touch`.
+
 /// An element of a variable of the main program. A scalar has the one element 0.
 #[derive(Clone, Copy, Debug, PartialEq, Eq)]
 pub struct ElementId {

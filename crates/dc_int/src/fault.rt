@@ -1,3 +1,5 @@
+//! `FaultKind` and `Why`.
+
 /// What ends a run in the midst of a statement.
 #[derive(Clone, Copy, Debug, PartialEq, Eq)]
 pub enum FaultKind {

@@ -1,3 +1,5 @@
+//! `Kind`, and wrapping to one.
+
 ghost use Rattle.std.specs.Prelude.{◌≡◌, ◌↔◌, ℤ, ◌^◌, IsTrue};
 ghost use Rattle.dc_int.specs.declared.kind.Kind.{Kind};
 ghost use Rattle.dc_int.specs.Kinds.{bits_of, least_of, greatest_of, InRange, Congruent, wrapped, is_bit_count, kind_with};

@@ -1,3 +1,5 @@
+//! The names of operations and of reductions, and the faults of operations.
+
 /// An operation on integers of one kind. `Neg`, `Abs`, `Not` and `Popcnt` pass over their second operand.
 #[derive(Clone, Copy, Debug, PartialEq, Eq)]
 pub enum Op {

@@ -1,3 +1,5 @@
+//! `Shape` and `Locality`.
+
 use crate::kind::Kind;
 use crate::operation::ReduceOp;
 

@@ -1,3 +1,5 @@
+//! The laws that what is written is read back.
+
 ghost use Rattle.std.specs.Prelude.{◌≡◌, true, ◌++◌, ◌∷◌, ℕ, ℤ, List, map, Ok};
 ghost use Rattle.std.specs.List.{list_all};
 ghost use Rattle.dc_int.specs.Sorts.{Sort};

@@ -1,3 +1,5 @@
+//! What an iteration taken alone is answered with: `AloneOut`.
+
 use dc_int::{Access, Contribution, Touch, Why};
 use dc_text::DcList;
 

@@ -1,3 +1,5 @@
+//! Assignments to a scalar, an element or a whole array.
+
 ghost use Rattle.std.specs.Prelude.{◌≡◌, ◌||◌, IsTrue, Some, None, true, [], ◌∷◌, option_map, map};
 ghost use Rattle.dc_tree.specs.Entities.{entity};
 ghost use Rattle.dc_tree.specs.SmallPrograms.{are_small_symbols, is_small_subscript, is_small_target, is_small, is_outside_scalar, is_vector};

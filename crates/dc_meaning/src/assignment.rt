@@ -1,3 +1,5 @@
+//! `perform`: an action of the main program.
+
 ghost use Rattle.std.specs.Prelude.{◌≡◌, IsTrue, true, []};
 ghost use Rattle.dc_tree.specs.Entities.{main_scope};
 ghost use Rattle.dc_tree.specs.SmallPrograms.{are_small_symbols, is_small_assignment};

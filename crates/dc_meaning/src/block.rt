@@ -1,3 +1,5 @@
+//! The statements of a block, one after another.
+
 ghost use Rattle.std.specs.Prelude.{◌≡◌, ℕ, IsTrue, map};
 ghost use Rattle.dc_tree.specs.Blocks.{item, items, items_from};
 ghost use Rattle.dc_tree.specs.SmallPrograms.{are_small_symbols, is_small_block};

@@ -1,3 +1,5 @@
+//! `Cells`, what the variables hold and the notes of what was done to them.
+
 ghost use Rattle.std.specs.Prelude.{◌≡◌, [], map, slice_get, Some, OnOk, IfOk, IsTrue};
 ghost use Rattle.dc_int.specs.Entries.{Reads, Defines, accesses_of, last_states, contributions_of, store_after};
 ghost use Rattle.dc_int.specs.Store.{value_at, put_at, with_cell, number_in};

@@ -1,3 +1,5 @@
+//! `alone`: an iteration of a loop over the store that it opens with.
+
 ghost use Rattle.std.specs.Prelude.{◌≡◌, ℕ, [], ◌∷◌, length, IfOk, IsTrue};
 ghost use Rattle.dc_tree.specs.Blocks.{source_of};
 ghost use Rattle.dc_tree.specs.SmallPrograms.{is_small_program};

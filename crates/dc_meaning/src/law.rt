@@ -1,3 +1,5 @@
+//! The law that what is seen is a run.
+
 ghost use Rattle.std.specs.Prelude.{◌≡◌};
 ghost use Rattle.dc_code.specs.Computation.{Computation, over};
 ghost use Rattle.dc_meaning.specs.Walking.{View, seen_over, behind_view};

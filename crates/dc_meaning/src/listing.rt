@@ -1,3 +1,5 @@
+//! Accesses, last states and contributions, from notes.
+
 ghost use Rattle.std.specs.Prelude.{◌≡◌, ◌++◌, map, Some, None, IfOk, OnOk};
 ghost use Rattle.std.specs.List.{list_any};
 ghost use Rattle.dc_int.specs.Entries as entries;

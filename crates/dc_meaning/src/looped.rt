@@ -1,3 +1,5 @@
+//! A loop of a program: its header and its block.
+
 use dc_tree::{Block, Lined};
 
 /// A loop: its head, and the block of its iterations.

@@ -1,3 +1,5 @@
+//! The loop of a number, and one iteration of it.
+
 ghost use Rattle.std.specs.Prelude.{◌≡◌, ℕ, IsTrue, Some, [], ◌∷◌, map, option_map};
 ghost use Rattle.dc_tree.specs.Blocks.{item, items, items_from};
 ghost use Rattle.dc_tree.specs.Entities.{main_scope};

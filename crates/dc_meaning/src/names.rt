@@ -1,3 +1,5 @@
+//! What a name stands for, at a place in the walk.
+
 ghost use Rattle.std.specs.Prelude.{◌≡◌, IsTrue};
 ghost use Rattle.dc_int.specs.declared.kind.Kind.{Kind};
 ghost use Rattle.dc_int.specs.Sorts.{whole};

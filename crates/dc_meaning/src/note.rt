@@ -1,3 +1,5 @@
+//! `Variable` and `Note`: the cells of a variable, and one thing done to a cell.
+
 use dc_int::ElementId;
 use dc_text::DcList;
 

@@ -1,3 +1,5 @@
+//! Numbers from digits, and the three operations that run today.
+
 ghost use Rattle.std.specs.Prelude.{◌≡◌, ◌<◌, IsTrue, Ok, pos};
 ghost use Rattle.dc_int.specs.declared.kind.Kind.{Kind};
 ghost use Rattle.dc_int.specs.Kinds.{wrapped};

@@ -1,3 +1,5 @@
+//! Variables with the states that a loop opens with.
+
 ghost use Rattle.std.specs.Prelude.{◌≡◌, map, Some, IsTrue, IfOk};
 ghost use Rattle.std.specs.List.{list_all};
 ghost use Rattle.dc_int.specs.Store as stores;

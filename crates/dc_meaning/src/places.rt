@@ -1,3 +1,5 @@
+//! The element that a name and a subscript name, and its faults.
+
 ghost use Rattle.std.specs.Prelude.{◌≡◌, [], ◌∷◌, pos};
 ghost use Rattle.dc_int.specs.declared.fault.Why.{Why};
 ghost use Rattle.dc_int.specs.Store.{position_in};

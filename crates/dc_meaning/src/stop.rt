@@ -1,3 +1,5 @@
+//! `Stop`: how a statement doesn't go on.
+
 ghost use Rattle.std.specs.Prelude.{◌≡◌};
 ghost use Rattle.dc_meaning.specs.declared.stop.Stop.{Stop};
 

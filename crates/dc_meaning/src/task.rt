@@ -1,3 +1,5 @@
+//! What the judge is given of a loop.
+
 use dc_tree::{Block, Stmt, Symbols};
 
 /// A loop to be judged: the declared names, its header, and its block.

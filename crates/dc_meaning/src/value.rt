@@ -1,3 +1,5 @@
+//! The value of an expression.
+
 ghost use Rattle.std.specs.Prelude.{◌≡◌, IsTrue};
 ghost use Rattle.dc_tree.specs.Entities.{entity};
 ghost use Rattle.dc_tree.specs.SmallPrograms.{are_small_symbols, is_small};

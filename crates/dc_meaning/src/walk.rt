@@ -1,3 +1,5 @@
+//! `Walk`: what the walker knows at a place, its index among it.
+
 use dc_tree::Symbols;
 
 /// The index of a loop, with its value in an iteration.

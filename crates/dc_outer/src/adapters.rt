@@ -1,3 +1,5 @@
+//! Files, input and output of the system.
+
 ghost use Rattle.std.specs.Prelude.{◌≡◌, ◌+◌, ◌<◌, ◌≤◌, None, IfOk, length, vec_len};
 ghost use Rattle.std.specs.Io.KnownBytes.{ReadConsumes, WriteAppends};
 ghost use Rattle.dc_outer.specs.Causes.{CountOf};

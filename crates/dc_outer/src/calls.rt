@@ -1,3 +1,5 @@
+//! Which calls of a form over memory fail.
+
 ghost use Rattle.std.specs.Prelude.{◌≡◌};
 ghost use Rattle.dc_outer.specs.Causes.{next_count};
 ghost use Rattle.dc_outer.specs.Memory.{is_listed};

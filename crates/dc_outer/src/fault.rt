@@ -1,3 +1,5 @@
+//! `Failed` and `FileFault`.
+
 ghost use Rattle.std.specs.Prelude.{◌≡◌};
 ghost use Rattle.dc_outer.specs.declared.fault.FileFault.TheVariants.{NoMemory as no_memory};
 

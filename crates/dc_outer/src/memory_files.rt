@@ -1,3 +1,5 @@
+//! Files in memory: `FilesInMemory`, `FilesSure`.
+
 ghost use Rattle.std.specs.Prelude.{◌≡◌, ◌+◌, ◌≤◌, ◌↔◌, Some, IfOk, IfSome, IsErrOf, IsOkUnless, IsTrue, take, option_copied, option_map, vec_len};
 ghost use Rattle.dc_outer.specs.Causes.{FileCount};
 ghost use Rattle.dc_outer.specs.Memory.{after_file, first_held, held_or_empty, read_fails};

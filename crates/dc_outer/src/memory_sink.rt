@@ -1,3 +1,5 @@
+//! Sinks in memory: `BytesOut`, `BytesOutSure`.
+
 ghost use Rattle.std.specs.Prelude.{◌≡◌, ◌≤◌, ◌<◌, ◌↔◌, length, take, [], Some, IfOk, IsErr, IsTrue, OnErr};
 ghost use Rattle.dc_outer.specs.Causes.{CountOf};
 ghost use Rattle.dc_outer.specs.Moves.{RoomOf, Taken};

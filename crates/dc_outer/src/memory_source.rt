@@ -1,3 +1,5 @@
+//! Sources in memory: `BytesIn`, `BytesInSure`.
+
 ghost use Rattle.std.specs.Prelude.{◌≡◌, ◌≤◌, ◌<◌, ◌↔◌, length, [], Ok, Some, IfOk, IsErr, IsTrue, OnErr};
 ghost use Rattle.dc_outer.specs.Causes.{CountOf};
 ghost use Rattle.dc_outer.specs.Moves.{AtEndOnly, Moved};

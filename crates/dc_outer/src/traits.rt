@@ -1,3 +1,5 @@
+//! `Files`, `Source`, `Sink` and `Gate`.
+
 ghost use Rattle.std.specs.Prelude.{◌≡◌, ◌+◌, ◌≤◌, ◌<◌, ℕ, List, Option, None, length, take, vec_len, IfOk, IfSome, OnErr};
 ghost use Rattle.dc_outer.specs.Causes.{CountOf, FileCount};
 ghost use Rattle.dc_outer.specs.Moves.{AtEndOnly, Moved, RoomOf, Taken};

@@ -1,3 +1,5 @@
+//! `Ending`: how a run ended.
+
 use dc_code::Verdict;
 use dc_int::Why;
 

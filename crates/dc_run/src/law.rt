@@ -1,3 +1,5 @@
+//! The law that subscripts lead back to their element.
+
 ghost use Rattle.std.specs.Prelude.{◌≡◌, ◌<◌, ℕ, Some};
 ghost use Rattle.dc_int.specs.Store.{Bounds, elements_in, position_in};
 ghost use Rattle.dc_run.specs.ReportLine.{subscripts_at};

@@ -1,3 +1,5 @@
+//! The file that the words of a command line name.
+
 ghost use Rattle.std.specs.Prelude.{◌≡◌, option_map, codes, ◌↔◌, IsTrue};
 ghost use Rattle.std.specs.Option.{option_copied};
 ghost use Rattle.std.specs.Str.{is_utf8};

@@ -1,3 +1,5 @@
+//! The report of a source.
+
 ghost use Rattle.std.specs.Prelude.{◌≡◌, IfOk};
 ghost use Rattle.dc_tree.specs.Blocks.{source_of};
 ghost use Rattle.docon.specs.Report.{only_log, refusal_words, IsRunReport, IsSourceReport};

@@ -1,3 +1,5 @@
+//! `run_sure`: the top call over an outside that doesn't fail.
+
 ghost use Rattle.std.specs.Prelude.{◌≡◌};
 ghost use Rattle.docon.specs.Answers.{Answers, KeepsFiles};
 ghost use Rattle.docon.specs.Report.{reading};

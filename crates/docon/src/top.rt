@@ -1,3 +1,5 @@
+//! `docon`, the top call. A reader begins here.
+
 ghost use Rattle.std.specs.Prelude.{◌≡◌, IfOk};
 ghost use Rattle.docon.specs.Answers.{Answers, KeepsFiles};
 ghost use Rattle.docon.specs.Report.{reading, Reported};

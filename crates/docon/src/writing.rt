@@ -1,3 +1,5 @@
+//! A report written to out and to the log.
+
 ghost use Rattle.std.specs.Prelude.{◌≡◌, ◌≤◌, length, drop};
 ghost use Rattle.docon.specs.Room.{Fits, WritesInRoom};
 ghost use Rattle.docon.specs.Writing.{change, WritesAll, IsWritten};
