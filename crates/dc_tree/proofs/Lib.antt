@@ -9,6 +9,7 @@ pub mod Places
 pub mod Ranks
 pub mod ReadingComplete
 pub mod ReadingSound
+pub mod Results
 mod StatementExamples
 pub mod StatementsBack
 pub mod Views
