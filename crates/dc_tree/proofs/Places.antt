@@ -1,7 +1,6 @@
 -- The index of the symbols: what it finds, and how it grows.
 use Rattle.std.proofs.Common.{◌≡◌, ◌≢◌, ℕ, zero, suc, ◌<◌, Bool, true, false, ◌&&◌, cond, eqb, List, [], ◌∷◌, ◌++◌, length, slice_get, slice_set, Option, Some, None, refl, sym, ap, subst, ◌∙◌, arith, inl, inr}
 use Rattle.std.specs.Prelude.{bytes_eq, option_map, option_and_then, Vec}
-use Rattle.std.specs.Option.{option_or}
 use Rattle.std.proofs.lemmas.Bool.{cases_Bool, and_parts}
 use Rattle.std.proofs.lemmas.Bool.Decides.{eqb_tells}
 use Rattle.std.proofs.lemmas.Bool.{eqb-true}
@@ -10,11 +9,10 @@ use Rattle.std.proofs.lemmas.Slice.Eq.{bytes_eq-Decides}
 use Rattle.std.proofs.lemmas.Cmp.{nat_list_eq_equiv}
 use Rattle.std.specs.Map.{KeepsOthers}
 use Rattle.indexmap.specs.IndexMap.{IndexMap, get_by, Updates}
-use Rattle.dc_int.specs.declared.kind.Kind.{Kind}
 use Rattle.dc_tree.specs.declared.symbols.NamedScope.{NamedScope}
 use Rattle.dc_tree.specs.declared.symbols.Symbol.{Symbol}
-use Rattle.dc_tree.specs.Symbols.{declares, symbol_at, declared_sort}
-use Rattle.dc_tree.specs.Places.{place_at, place_in, IsIndex, IsSameIndex, Adds, AddsResult}
+use Rattle.dc_tree.specs.Symbols.{declares, symbol_at}
+use Rattle.dc_tree.specs.Places.{place_at, place_in, IsIndex, IsSameIndex, Adds}
 
 -- one place further on
 abbrev next : Option ℕ → Option ℕ
@@ -77,11 +75,6 @@ get-set_other (x ∷ xs) (suc i) (suc j) y other = get-set_other xs i j y (λ h.
 apart : (name other key : List ℕ) → bytes_eq name other ≡ false → bytes_eq name key ≡ true → bytes_eq other key ≡ false
 apart name other key differ same = nat_list_eq_equiv.symm other key ∙ sym (nat_list_eq_equiv.congr name key other same) ∙ differ
 
--- the sort of the first form that there is
-map_or : (first second : Option (Bool × Kind)) → option_map declared_sort (option_or first second) ≡ option_or (option_map declared_sort first) (option_map declared_sort second)
-map_or None second = refl
-map_or (Some form) second = refl
-
 abbrev Index : Type 0 → Type 0 → Type 0
 Index A S = IndexMap (Vec ℕ A) ℕ S
 
@@ -109,7 +102,7 @@ pub found : (scopes : List NamedScope) (xs : List Symbol) → IsIndex scopes xs 
 found scopes xs index s n place is = ap (λ (o : Option ℕ). option_and_then (λ p. slice_get xs p) o) (is ∙ index s n) ∙ at-place xs s n
 
 -- what is read of the scopes where one of them is changed
-changed : {X : Type 0} (read : NamedScope → Option X) (change : Option X → Option X) (scopes : List NamedScope) (i : ℕ) (old new : NamedScope) → i < length scopes → slice_get scopes i ≡ Some old
+pub changed : {X : Type 0} (read : NamedScope → Option X) (change : Option X → Option X) (scopes : List NamedScope) (i : ℕ) (old new : NamedScope) → i < length scopes → slice_get scopes i ≡ Some old
     → read new ≡ change (read old)
     → (s : ℕ) → option_and_then read (slice_get (slice_set scopes i new) s) ≡ cond (eqb i s) (change (option_and_then read (slice_get scopes s))) (option_and_then read (slice_get scopes s))
 changed {X} read change scopes i old new within at is s = elim (eqb_tells i s) [
@@ -125,18 +118,12 @@ both_cond : {X : Type 0} (a b : Bool) (x y : X) → cond a (cond b x y) y ≡ co
 both_cond true b x y = refl
 both_cond false b x y = refl
 
-module _ (scopes : List NamedScope) (i : ℕ) (old new : NamedScope) (within : i < length scopes) (at : slice_get scopes i ≡ Some old) where
-  -- one more key in the map of one scope
-  pub noted : (key : List ℕ) (place : ℕ) → ((n : List ℕ) → place_of n new.names ≡ cond (bytes_eq key n) (Some place) (place_of n old.names)) → Adds scopes i key place (slice_set scopes i new)
-  noted key place more s n =
-      changed (λ own. place_of n own.names) (λ o. cond (bytes_eq key n) (Some place) o) scopes i old new within at (more n) s
-      ∙ both_cond (eqb i s) (bytes_eq key n) (Some place) (place_in scopes s n)
-
-  -- a result where there was none
-  pub result_noted : (result : Option (Bool × Kind)) → new.result ≡ option_or old.result result → AddsResult scopes i (option_map declared_sort result) (slice_set scopes i new)
-  result_noted result is s =
-      changed (λ own. option_map declared_sort own.result) (λ o. option_or o (option_map declared_sort result)) scopes i old new within at
-      (ap (λ form. option_map declared_sort form) is ∙ map_or old.result result) s
+-- one more key in the map of one scope
+pub noted : (scopes : List NamedScope) (i : ℕ) (key : List ℕ) (place : ℕ) (old new : NamedScope) → i < length scopes → slice_get scopes i ≡ Some old
+    → ((n : List ℕ) → place_of n new.names ≡ cond (bytes_eq key n) (Some place) (place_of n old.names)) → Adds scopes i key place (slice_set scopes i new)
+noted scopes i key place old new within at more s n =
+    changed (λ own. place_of n own.names) (λ o. cond (bytes_eq key n) (Some place) o) scopes i old new within at (more n) s
+    ∙ both_cond (eqb i s) (bytes_eq key n) (Some place) (place_in scopes s n)
 
 -- one more symbol in the list, whose name had none
 pub extended : (old mid new : List NamedScope) (xs : List Symbol) (x : Symbol) → IsIndex old xs → IsSameIndex old mid → Adds mid x.scope x.name (length xs) new

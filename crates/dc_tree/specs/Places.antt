@@ -1,8 +1,9 @@
 -- Where the symbols stand, as the list says it and as the index does; and the results of functions.
-use Rattle.std.specs.Prelude.{◌≡◌, ℕ, suc, ◌&&◌, nat_eq, bytes_eq, cond, IsTrue, List, [], ◌∷◌, Option, Some, None, slice_get, option_map, option_and_then}
+use Rattle.std.specs.Prelude.{◌≡◌, ℕ, suc, Bool, ◌&&◌, nat_eq, bytes_eq, cond, IsTrue, List, [], ◌∷◌, Option, Some, None, slice_get, option_map, option_and_then}
 use Rattle.std.specs.List.{list_all}
 use Rattle.std.specs.Option.{option_or}
 use Rattle.indexmap.specs.IndexMap.{get_by}
+use Rattle.dc_int.specs.declared.kind.Kind.{Kind}
 use Rattle.dc_int.specs.Sorts.{Sort}
 use Rattle.dc_tree.specs.declared.symbols.NamedScope.{NamedScope}
 use Rattle.dc_tree.specs.declared.symbols.Symbol.{Symbol}
@@ -49,7 +50,7 @@ abbrev pub Adds : List NamedScope → ℕ → List ℕ → ℕ → List NamedSco
 Adds before scope name place after =
     (s : ℕ) (n : List ℕ) → place_in after s n ≡ cond (nat_eq scope s && bytes_eq name n) (Some place) (place_in before s n)
 
--- A scope that had no result may have this one.
-abbrev pub AddsResult : List NamedScope → ℕ → Option Sort → List NamedScope → Type 0
-AddsResult before scope result after =
-    (s : ℕ) → noted_in after s ≡ cond (nat_eq scope s) (option_or (noted_in before s) result) (noted_in before s)
+-- A scope that had no result may have one of this type.
+abbrev pub AddsResult : List NamedScope → ℕ → Option (Bool × Kind) → List NamedScope → Type 0
+AddsResult before scope form after =
+    (s : ℕ) → noted_in after s ≡ cond (nat_eq scope s) (option_or (noted_in before s) (option_map declared_sort form)) (noted_in before s)

@@ -206,7 +206,7 @@ fn note(
 fn note_result(scopes: &mut Vec<NamedScope>, scope: u32, form: Option<(bool, Kind)>)
     requires { scope < length scopes.old.items }
     ensures same { IsSameIndex scopes.old.items scopes.new.items }
-    ensures results { AddsResult scopes.old.items scope (option_map declared_sort form) scopes.new.items }
+    ensures results { AddsResult scopes.old.items scope form scopes.new.items }
 {
     let own = &mut scopes[scope as usize];
     own.result = own.result.or(form);

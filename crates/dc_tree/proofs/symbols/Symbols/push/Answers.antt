@@ -1,6 +1,6 @@
-use Rattle.std.proofs.Common.{◌∙◌, List, ap, option_map}
+use Rattle.std.proofs.Common.{◌∙◌, List, ap}
 use Rattle.std.specs.List.{list_all}
-use Rattle.dc_tree.specs.Symbols.{declared_sort, is_sound}
+use Rattle.dc_tree.specs.Symbols.{is_sound}
 use Rattle.dc_tree.specs.declared.symbols.Symbol.{Symbol}
 use Rattle.dc_tree.proofs.Places.{grown}
 use Rattle.dc_tree.proofs.Results.{results-grown, sound-one_more}
@@ -19,7 +19,7 @@ invariant_of-self-2 c =
           c.in_ok-open.ensures.same c.in_default.ensures.ok (c.into_vec-name.ensures ∙ c.in_ok-copy.ensures) c.len-place.ensures c.self.view_is c.requires.free
           c.in_ok-push.ensures.ok c.note_result.ensures.same;
       results =
-          results-grown old known named last symbols c.push.new.self c.args.symbol (option_map declared_sort c.result_of-form.result) c.self.invariant.results
+          results-grown old known named last symbols c.push.new.self c.args.symbol c.result_of-form.result c.self.invariant.results
           c.in_ok-open.ensures.results c.in_default.ensures.results c.note_result.ensures.results c.result_of-form.ensures c.in_ok-push.ensures.ok;
       sound = ap (λ (xs : List Symbol). list_all is_sound xs) c.in_ok-push.ensures.ok ∙ sound-one_more symbols c.args.symbol c.self.invariant.sound c.requires.sound;
     }
