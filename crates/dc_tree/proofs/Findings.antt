@@ -94,7 +94,7 @@ least-is_first findings refusal some =
 
 -- ---- a finding where a test holds
 
-none-in_nothing : (refusal : Refusal) → Contains [] refusal → ⊥
+pub none-in_nothing : (refusal : Refusal) → Contains [] refusal → ⊥
 none-in_nothing refusal among = let less : among.0 < 0 = among.1 in absurd (omega (arith, less))
 
 pub found_if-holds : (test : Bool) (rule line : ℕ) (refusal : Refusal) → Contains (finding_if test rule line) refusal → (test ≡ true) × (finding rule line ≡ refusal)
