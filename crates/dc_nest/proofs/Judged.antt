@@ -1,85 +1,21 @@
--- The refusal that is kept is the first one.
-use Rattle.std.proofs.Common.{◌≡◌, ℕ, ◌<◌, Bool, true, false, not, ◌&&◌, ◌||◌, cond, ltb, eqb, List, [], ◌∷◌, Option, None, Some, refl, sym, ap, subst, ◌∙◌, inl, inr, ◌⊎◌, arith}
-use Rattle.std.specs.List.{list_any}
-use Rattle.std.proofs.lemmas.Bool.{false≢true, or_cases, or_left, or_right, and_parts, and_from, cases_Bool, ltb-true, eqb-true, lt-ltb, eq-eqb, not_from_false}
+-- The least finding is the first broken rule.
+use Rattle.std.proofs.Common.{◌≡◌, ℕ, Bool, true, false, not, ◌&&◌, ◌||◌, cond, eqb, List, [], ◌∷◌, Some, None, refl, sym, subst, inl, inr, ◌⊎◌}
+use Rattle.std.specs.Prelude.{flat_map, if◌then◌else◌}
+use Rattle.std.specs.List.{list_any, Contains}
+use Rattle.std.proofs.lemmas.Bool.{false≢true, or_cases, or_left, or_right, and_parts, and_from, cases_Bool, eqb-true, eq-eqb, not_from_false}
+use Rattle.std.proofs.lemmas.List.Elements.{Contains-append_left, Contains-append_right, Contains-append_cases}
 use Rattle.dc_tree.specs.declared.fail.Refusal.{Refusal}
 use Rattle.dc_tree.specs.Blocks.{Line}
+use Rattle.dc_tree.specs.Findings.{IsFirst, finding, found_in, least_of}
+use Rattle.dc_tree.proofs.Findings.{none-in_nothing, found_if-holds, holds-found_if, first-same, none-found, least-is_first}
 use Rattle.dc_nest.specs.declared.place.Place.{Place}
 use Rattle.dc_nest.specs.declared.rule.Rule.{Rule}
 use Rattle.dc_nest.specs.Places.{allows, behind, is_ended}
-use Rattle.dc_nest.specs.Rules.{Placed, breaks_at, breaks_from, is_of_the_end, is_open_behind, last_line, placed_from, Breaks}
-use Rattle.dc_nest.specs.Answer.{IsFirst}
-use Rattle.dc_nest.specs.Judging.{refusal_of, is_before, lesser, noted, noted_all, all_rules, told, judged, is_whole}
+use Rattle.dc_nest.specs.Rules.{Placed, breaks_at, breaks_from, is_of_the_end, is_open_behind, last_line, number_of, placed_from, Breaks}
+use Rattle.dc_nest.specs.Answer.{broken_in}
+use Rattle.dc_nest.specs.Judging.{finding_of, all_rules, findings_at, findings_from, findings, is_whole}
 
--- ---- the order of refusals
-
-before-cases : (a b : Refusal) → is_before a b ≡ true → (a.line < b.line) ⊎ ((a.line ≡ b.line) × (a.rule < b.rule))
-before-cases a b is =
-    elim (or_cases (ltb a.line b.line) (eqb a.line b.line && ltb a.rule b.rule) is) [
-      | inl less ↦ inl (ltb-true a.line b.line less)
-      | inr same ↦ let parts = and_parts (eqb a.line b.line) (ltb a.rule b.rule) same in inr (eqb-true a.line b.line parts.0, ltb-true a.rule b.rule parts.1)
-    ]
-
-pub before-line : (a b : Refusal) → a.line < b.line → is_before a b ≡ true
-before-line a b less = or_left (ltb a.line b.line) (eqb a.line b.line && ltb a.rule b.rule) (lt-ltb a.line b.line less)
-
-pub before-rule : (a b : Refusal) → a.line ≡ b.line → a.rule < b.rule → is_before a b ≡ true
-before-rule a b same less =
-    or_right (ltb a.line b.line) (eqb a.line b.line && ltb a.rule b.rule)
-    (and_from (eqb a.line b.line) (ltb a.rule b.rule) (eq-eqb a.line b.line same) (lt-ltb a.rule b.rule less))
-
-before-chain : (a b c : Refusal) → is_before a b ≡ true → is_before b c ≡ true → is_before a c ≡ true
-before-chain a b c first second =
-    elim (before-cases a b first) [
-      | inl less ↦ elim (before-cases b c second) [ inl more ↦ let far : a.line < c.line = omega arith in before-line a c far | inr same ↦ let far : a.line < c.line = omega (arith, same.0) in before-line a c far ]
-      | inr same ↦
-          elim (before-cases b c second) [
-            | inl more ↦ let far : a.line < c.line = omega (arith, same.0) in before-line a c far
-            | inr more ↦ let far : a.rule < c.rule = omega (arith, same.1, more.1) in before-rule a c (same.0 ∙ more.0) far
-          ]
-    ]
-
-before-itself : (a : Refusal) → is_before a a ≡ true → ⊥
-before-itself a is =
-    elim (before-cases a a is) [ inl less ↦ let no : ⊥ = omega arith in no | inr same ↦ let less : a.rule < a.rule = same.1 in let no : ⊥ = omega arith in no ]
-
--- ---- what is kept
-
--- A refusal is kept, and this one isn't before it.
-pub record Keeps (kept : Option Refusal) (refusal : Refusal) : Type 0 where
-  pub least : Refusal
-  pub is : kept ≡ Some least
-  pub not_before : is_before refusal least ≡ true → ⊥
-
-keep-lesser : (b : Bool) (next least refusal : Refusal) → is_before next least ≡ b → (is_before refusal least ≡ true → ⊥) → Keeps (Some (cond b next least)) refusal
-keep-lesser true next least refusal less not_before =
-    record { least = next; is = refl; not_before = λ before. not_before (before-chain refusal next least before less) }
-keep-lesser false next least refusal less not_before = record { least = least; is = refl; not_before = not_before }
-
-keep-noted : (broken : Bool) (next refusal : Refusal) (kept : Option Refusal) → Keeps kept refusal → Keeps (noted broken next kept) refusal
-keep-noted false next refusal kept keeps = keeps
-keep-noted true next refusal kept keeps =
-    let Kept : Option Refusal → Type 0 = λ k. Keeps (Some (lesser k next)) refusal in
-    subst Kept (sym keeps.is) (keep-lesser (is_before next keeps.least) next keeps.least refusal refl keeps.not_before)
-
-keep-next : (b : Bool) (next least : Refusal) → is_before next least ≡ b → Keeps (Some (cond b next least)) next
-keep-next true next least less = record { least = next; is = refl; not_before = before-itself next }
-keep-next false next least less = record { least = least; is = refl; not_before = λ before. false≢true (sym less ∙ before) }
-
-note-next : (next : Refusal) (kept : Option Refusal) → Keeps (noted true next kept) next
-note-next next None = record { least = next; is = refl; not_before = before-itself next }
-note-next next (Some least) = keep-next (is_before next least) next least refl
-
-lesser-is : (b : Bool) (next least found : Refusal) → Some (cond b next least) ≡ Some found → (Some least ≡ Some found) ⊎ (next ≡ found)
-lesser-is true next least found same = let is : next ≡ found = cc in inr is
-lesser-is false next least found same = inl same
-
-found-noted : (broken : Bool) (next found : Refusal) (kept : Option Refusal) → noted broken next kept ≡ Some found → (kept ≡ Some found) ⊎ ((broken ≡ true) × (next ≡ found))
-found-noted false next found kept same = inl same
-found-noted true next found None same = let is : next ≡ found = cc in inr (refl, is)
-found-noted true next found (Some least) same = elim (lesser-is (is_before next least) next least found same) [ inl old ↦ inl old | inr new ↦ inr (refl, new) ]
-
--- ---- over all rules
+-- ---- the findings of one statement
 
 abbrev IsIn : Rule → List Rule → Type 0
 IsIn rule [] = ⊥
@@ -93,41 +29,33 @@ all-in Rule.NoLoop = inr (inr (inr (inl refl)))
 all-in Rule.Strays = inr (inr (inr (inr (inl refl))))
 all-in Rule.Confined = inr (inr (inr (inr (inr (inl refl)))))
 
-keep-all : (broken : Rule → Bool) (line : ℕ) (rules : List Rule) (kept : Option Refusal) (refusal : Refusal) → Keeps kept refusal → Keeps (noted_all broken line rules kept) refusal
-keep-all broken line [] kept refusal keeps = keeps
-keep-all broken line (rule ∷ rules) kept refusal keeps =
-    keep-all broken line rules (noted (broken rule) (refusal_of rule line) kept) refusal (keep-noted (broken rule) (refusal_of rule line) refusal kept keeps)
+-- a rule that the statement breaks, of which this is the finding
+record Stands (place : Place) (line : Line) (refusal : Refusal) : Type 0 where
+  rule : Rule
+  breaks : breaks_at rule place line.says ≡ true
+  is : finding (number_of rule) line.line ≡ refusal
 
-note-all : (broken : Rule → Bool) (line : ℕ) (rules : List Rule) (kept : Option Refusal) (rule : Rule) → IsIn rule rules → broken rule ≡ true → Keeps (noted_all broken line rules kept) (refusal_of rule line)
-note-all broken line [] kept rule among is = absurd among
-note-all broken line (first ∷ rules) kept rule among is =
-    elim among [
-      | inl same ↦
-          let next = refusal_of first line in
-          let Kept : Rule → Type 0 = λ r. Keeps (noted_all broken line rules (noted (broken first) next kept)) (refusal_of r line) in
-          let Noted : Bool → Type 0 = λ b. Keeps (noted b next kept) next in
-          let now : Keeps (noted (broken first) next kept) next = subst Noted (sym (ap broken same ∙ is)) (note-next next kept) in
-          subst Kept same (keep-all broken line rules (noted (broken first) next kept) next now)
-      | inr later ↦ note-all broken line rules (noted (broken first) (refusal_of first line) kept) rule later is
+found-stands : (place : Place) (line : Line) (rules : List Rule) (refusal : Refusal) → Contains (flat_map (λ rule. finding_of rule place line) rules) refusal → Stands place line refusal
+found-stands place line [] refusal among = absurd (none-in_nothing refusal among)
+found-stands place line (rule ∷ rules) refusal among =
+    elim (Contains-append_cases (finding_of rule place line) (flat_map (λ rule. finding_of rule place line) rules) refusal among) [
+      | inl here ↦
+          let holds = found_if-holds (breaks_at rule place line.says) (number_of rule) line.line refusal here in
+          record { rule = rule; breaks = holds.0; is = holds.1 }
+      | inr later ↦ found-stands place line rules refusal later
     ]
 
--- a broken rule for which this refusal stands
-record Stands (broken : Rule → Bool) (line : ℕ) (refusal : Refusal) : Type 0 where
-  rule : Rule
-  breaks : broken rule ≡ true
-  is : refusal_of rule line ≡ refusal
-
-found-all : (broken : Rule → Bool) (line : ℕ) (rules : List Rule) (kept : Option Refusal) (found : Refusal) → noted_all broken line rules kept ≡ Some found
-    → (kept ≡ Some found) ⊎ Stands broken line found
-found-all broken line [] kept found same = inl same
-found-all broken line (rule ∷ rules) kept found same =
-    elim (found-all broken line rules (noted (broken rule) (refusal_of rule line) kept) found same) [
-      | inl old ↦
-          elim (found-noted (broken rule) (refusal_of rule line) found kept old) [
-            | inl older ↦ inl older
-            | inr new ↦ inr (record { rule = rule; breaks = new.0; is = new.1 })
-          ]
-      | inr later ↦ inr later
+stands-found : (place : Place) (line : Line) (rules : List Rule) (rule : Rule) → IsIn rule rules → breaks_at rule place line.says ≡ true
+    → Contains (flat_map (λ rule. finding_of rule place line) rules) (finding (number_of rule) line.line)
+stands-found place line [] rule among breaks = absurd among
+stands-found place line (first ∷ rules) rule among breaks =
+    let rest = flat_map (λ rule. finding_of rule place line) rules in
+    elim among [
+      | inl same ↦
+          let Found : Rule → Type 0 = λ r. Contains (finding_of r place line) (finding (number_of rule) line.line) in
+          Contains-append_left (finding_of first place line) rest (finding (number_of rule) line.line)
+          (subst Found (sym same) (holds-found_if (breaks_at rule place line.says) (number_of rule) line.line breaks))
+      | inr later ↦ Contains-append_right (finding_of first place line) rest (finding (number_of rule) line.line) (stands-found place line rules rule later breaks)
     ]
 
 -- ---- what the statements from a place on break: by the first of them, or by the rest
@@ -184,21 +112,10 @@ breaks-rest place line rule next rest number =
 -- a rule that is broken, for which a refusal stands
 record Broken (place : Place) (line : ℕ) (list : List Line) (refusal : Refusal) : Type 0 where
   rule : Rule
-  is : refusal ≡ refusal_of rule refusal.line
+  is : refusal.rule ≡ number_of rule
   breaks : breaks_from place line rule list refusal.line ≡ true
 
--- ---- what is judged
-
-keep-judged : (kept : Option Refusal) (place : Place) (line : ℕ) (list : List Line) (refusal : Refusal) → Keeps kept refusal → Keeps (judged kept place line list) refusal
-keep-judged kept place line [] refusal keeps = keep-noted (not (is_ended place)) (refusal_of Rule.Misplaced line) refusal kept keeps
-keep-judged kept place line (next ∷ rest) refusal keeps =
-    let now = keep-all (λ rule. breaks_at rule place next.says) next.line all_rules kept refusal keeps in
-    by_allowed (allows place next.says) now (keep-judged (told place next kept) (behind place next.says) next.line rest refusal now)
-  where
-    by_allowed : (b : Bool) → Keeps (told place next kept) refusal → Keeps (judged (told place next kept) (behind place next.says) next.line rest) refusal
-        → Keeps (cond b (judged (told place next kept) (behind place next.says) next.line rest) (told place next kept)) refusal
-    by_allowed true now later = later
-    by_allowed false now later = now
+-- ---- the findings are what is broken
 
 end-broken : (rule : Rule) (place : Place) (line number : ℕ) → breaks_from place line rule [] number ≡ true → (Rule.Misplaced ≡ rule) × (not (is_ended place) ≡ true) × (line ≡ number)
 end-broken Rule.Misplaced place line number is = let parts = and_parts (not (is_ended place)) (eqb number line) is in (refl, parts.0, sym (eqb-true number line parts.1))
@@ -208,100 +125,78 @@ end-broken Rule.NoLoop place line number is = absurd (false≢true is)
 end-broken Rule.Strays place line number is = absurd (false≢true is)
 end-broken Rule.Confined place line number is = absurd (false≢true is)
 
--- Nothing that is broken is before what is kept.
-pub judge-broken : (kept : Option Refusal) (place : Place) (line : ℕ) (list : List Line) (rule : Rule) (number : ℕ) → breaks_from place line rule list number ≡ true
-    → Keeps (judged kept place line list) (refusal_of rule number)
-judge-broken kept place line [] rule number is =
-    let end = end-broken rule place line number is in
-    let Ended : Bool → Type 0 = λ b. Keeps (noted b (refusal_of Rule.Misplaced line) kept) (refusal_of Rule.Misplaced line) in
-    let Told : ℕ → Type 0 = λ n. Keeps (judged kept place line []) (refusal_of Rule.Misplaced n) in
-    let Ruled : Rule → Type 0 = λ r. Keeps (judged kept place line []) (refusal_of r number) in
-    subst Ruled end.0 (subst Told end.2 (subst Ended (sym end.1) (note-next (refusal_of Rule.Misplaced line) kept)))
-judge-broken kept place line (next ∷ rest) rule number is =
-    by_allowed (allows place next.says) refl (λ later. judge-broken (told place next kept) (behind place next.says) next.line rest rule number later) (breaks-parts place line rule next rest number is)
-  where
-    here : (eqb next.line number && breaks_at rule place next.says) ≡ true → Keeps (told place next kept) (refusal_of rule number)
-    here is =
-        let parts = and_parts (eqb next.line number) (breaks_at rule place next.says) is in
-        let Told : ℕ → Type 0 = λ n. Keeps (told place next kept) (refusal_of rule n) in
-        subst Told (eqb-true next.line number parts.0) (note-all (λ rule. breaks_at rule place next.says) next.line all_rules kept rule (all-in rule) parts.1)
+-- the findings behind a statement, where it is allowed
+abbrev deep : Place → Line → List Line → List Refusal
+deep place next rest = findings_from (behind place next.says) next.line rest
 
-    by_allowed : (b : Bool) → allows place next.says ≡ b
-        → (breaks_from (behind place next.says) next.line rule rest number ≡ true → Keeps (judged (told place next kept) (behind place next.says) next.line rest) (refusal_of rule number))
-        → ((eqb next.line number && breaks_at rule place next.says) ≡ true) ⊎ ((allows place next.says ≡ true) × (breaks_from (behind place next.says) next.line rule rest number ≡ true))
-        → Keeps (cond b (judged (told place next kept) (behind place next.says) next.line rest) (told place next kept)) (refusal_of rule number)
-    by_allowed true allowed deeper (inl first) = keep-judged (told place next kept) (behind place next.says) next.line rest (refusal_of rule number) (here first)
-    by_allowed true allowed deeper (inr later) = deeper later.1
-    by_allowed false allowed deeper (inl first) = here first
-    by_allowed false allowed deeper (inr later) = absurd (false≢true (sym allowed ∙ later.0))
+abbrev further : Place → Line → List Line → List Refusal
+further place next rest = if allows place next.says then deep place next rest else []
+
+-- What is broken is found.
+broken-found : (place : Place) (line : ℕ) (list : List Line) (rule : Rule) (number : ℕ) → breaks_from place line rule list number ≡ true
+    → Contains (findings_from place line list) (finding (number_of rule) number)
+broken-found place line [] rule number is =
+    let end = end-broken rule place line number is in
+    let Found : Rule → ℕ → Type 0 = λ r n. Contains (findings_from place line []) (finding (number_of r) n) in
+    subst (λ r. Found r number) end.0 (subst (λ n. Found Rule.Misplaced n) end.2 (holds-found_if (not (is_ended place)) (number_of Rule.Misplaced) line end.1))
+broken-found place line (next ∷ rest) rule number is =
+    elim (breaks-parts place line rule next rest number is) [
+      | inl here ↦
+          let parts = and_parts (eqb next.line number) (breaks_at rule place next.says) here in
+          let Found : ℕ → Type 0 = λ n. Contains (findings_from place line (next ∷ rest)) (finding (number_of rule) n) in
+          subst Found (eqb-true next.line number parts.0)
+          (Contains-append_left (findings_at place next) (further place next rest) (finding (number_of rule) next.line) (stands-found place next all_rules rule (all-in rule) parts.1))
+      | inr later ↦
+          Contains-append_right (findings_at place next) (further place next rest) (finding (number_of rule) number)
+          (by_allowed (allows place next.says) later.0 (broken-found (behind place next.says) next.line rest rule number later.1))
+    ]
+  where
+    by_allowed : (b : Bool) → b ≡ true → Contains (deep place next rest) (finding (number_of rule) number) → Contains (if b then deep place next rest else []) (finding (number_of rule) number)
+    by_allowed true allowed among = among
+    by_allowed false allowed among = absurd (false≢true allowed)
+
+-- What is found is broken.
+found-broken : (place : Place) (line : ℕ) (list : List Line) (refusal : Refusal) → Contains (findings_from place line list) refusal → Broken place line list refusal
+found-broken place line [] refusal among =
+    let holds = found_if-holds (not (is_ended place)) (number_of Rule.Misplaced) line refusal among in
+    let Told : Refusal → Type 0 = λ r. Broken place line [] r in
+    subst Told holds.1 (record { rule = Rule.Misplaced; is = refl; breaks = and_from (not (is_ended place)) (eqb line line) holds.0 (eq-eqb line line refl) })
+found-broken place line (next ∷ rest) refusal among =
+    elim (Contains-append_cases (findings_at place next) (further place next rest) refusal among) [
+      | inl here ↦
+          let stands = found-stands place next all_rules refusal here in
+          let Told : Refusal → Type 0 = λ r. Broken place line (next ∷ rest) r in
+          subst Told stands.is (record { rule = stands.rule; is = refl; breaks = breaks-first place line stands.rule next rest stands.breaks })
+      | inr later ↦ by_allowed (allows place next.says) refl (λ among. found-broken (behind place next.says) next.line rest refusal among) later
+    ]
+  where
+    by_allowed : (b : Bool) → allows place next.says ≡ b → (Contains (deep place next rest) refusal → Broken (behind place next.says) next.line rest refusal)
+        → Contains (if b then deep place next rest else []) refusal → Broken place line (next ∷ rest) refusal
+    by_allowed true allowed deeper later =
+        let later_one = deeper later in
+        record { rule = later_one.rule; is = later_one.is; breaks = breaks-rest place line later_one.rule next rest refusal.line allowed later_one.breaks }
+    by_allowed false allowed deeper later = absurd (none-in_nothing refusal later)
 
 -- ---- the first broken rule
 
--- What is found was kept, or is broken.
-found-judged : (kept : Option Refusal) (place : Place) (line : ℕ) (list : List Line) (found : Refusal) → judged kept place line list ≡ Some found
-    → (kept ≡ Some found) ⊎ Broken place line list found
-found-judged kept place line [] found same =
-    elim (found-noted (not (is_ended place)) (refusal_of Rule.Misplaced line) found kept same) [
-      | inl old ↦ inl old
-      | inr new ↦ inr (found-end found new.0 new.1)
-    ]
-  where
-    found-end : (found : Refusal) → not (is_ended place) ≡ true → refusal_of Rule.Misplaced line ≡ found → Broken place line [] found
-    found-end found unended same =
-        let Told : Refusal → Type 0 = λ r. Broken place line [] r in
-        subst Told same (record { rule = Rule.Misplaced; is = refl; breaks = and_from (not (is_ended place)) (eqb line line) unended (eq-eqb line line refl) })
-found-judged kept place line (next ∷ rest) found same =
-    by_allowed (allows place next.says) refl (λ deep. found-judged (told place next kept) (behind place next.says) next.line rest found deep) same
-  where
-    at_first : told place next kept ≡ Some found → (kept ≡ Some found) ⊎ Broken place line (next ∷ rest) found
-    at_first same =
-        elim (found-all (λ rule. breaks_at rule place next.says) next.line all_rules kept found same) [
-          | inl old ↦ inl old
-          | inr new ↦
-              let Told : Refusal → Type 0 = λ r. Broken place line (next ∷ rest) r in
-              inr (subst Told new.is (record { rule = new.rule; is = refl; breaks = breaks-first place line new.rule next rest new.breaks }))
-        ]
+all-broken : (list : List Line) (rule line : ℕ) → found_in (findings list) rule line → broken_in list rule line
+all-broken list rule line among =
+    let broken = found-broken Place.Outset 1 list (finding rule line) among in
+    (broken.rule, broken.is, broken.breaks)
 
-    by_allowed : (b : Bool) → allows place next.says ≡ b
-        → (judged (told place next kept) (behind place next.says) next.line rest ≡ Some found → (told place next kept ≡ Some found) ⊎ Broken (behind place next.says) next.line rest found)
-        → cond b (judged (told place next kept) (behind place next.says) next.line rest) (told place next kept) ≡ Some found
-        → (kept ≡ Some found) ⊎ Broken place line (next ∷ rest) found
-    by_allowed true allowed deeper same =
-        elim (deeper same) [
-          | inl old ↦ at_first old
-          | inr later ↦ inr (record { rule = later.rule; is = later.is; breaks = breaks-rest place line later.rule next rest found.line allowed later.breaks })
-        ]
-    by_allowed false allowed deeper same = at_first same
+all-found : (list : List Line) (rule line : ℕ) → broken_in list rule line → found_in (findings list) rule line
+all-found list rule line broken =
+    subst (λ n. Contains (findings list) (finding n line)) (sym broken.1) (broken-found Place.Outset 1 list broken.0 line broken.2)
 
-none≢some : (found : Refusal) → ◌≡◌ {A = Option Refusal} None (Some found) → ⊥
-none≢some found same = cc
+pub least-first : (list : List Line) (refusal : Refusal) → least_of (findings list) ≡ Some refusal → IsFirst (broken_in list) refusal
+least-first list refusal least =
+    first-same (found_in (findings list)) (broken_in list) refusal (all-broken list) (all-found list) (least-is_first (findings list) refusal least)
 
--- Nothing broken is before what is found.
-not-before : (list : List Line) (found : Refusal) → judged None Place.Outset 1 list ≡ Some found → (other : Rule) (line : ℕ) → Breaks other list line
-    → is_before (refusal_of other line) found ≡ true → ⊥
-not-before list found same other line broken before =
-    let keeps = judge-broken None Place.Outset 1 list other line broken in
-    let one : keeps.least ≡ found = cc in
-    let After : Refusal → Type 0 = λ r. is_before (refusal_of other line) r ≡ true → ⊥ in
-    subst After one keeps.not_before before
-
-pub first-judged : (list : List Line) (found : Refusal) → judged None Place.Outset 1 list ≡ Some found → IsFirst list found
-first-judged list found same =
-    elim (found-judged None Place.Outset 1 list found same) [
-      | inl none ↦ absurd (none≢some found none)
-      | inr broken ↦ record {
-        rule = broken.rule;
-        rule_is = ap (λ (r : Refusal). r.rule) broken.is;
-        breaks = broken.breaks;
-        no_earlier = λ other line less breaks. not-before list found same other line breaks (before-line (refusal_of other line) found less);
-        no_lesser = λ other less breaks. not-before list found same other found.line breaks (before-rule (refusal_of other found.line) found refl less);
-      }
-    ]
-
-pub none-judged : (list : List Line) → judged None Place.Outset 1 list ≡ None → (rule : Rule) (line : ℕ) → Breaks rule list line → ⊥
-none-judged list none rule line broken =
-    let keeps = judge-broken None Place.Outset 1 list rule line broken in
-    none≢some keeps.least (sym none ∙ keeps.is)
+pub none-broken : (list : List Line) → least_of (findings list) ≡ None → (rule : Rule) (line : ℕ) → Breaks rule list line → ⊥
+none-broken list none rule line breaks =
+    let among = broken-found Place.Outset 1 list rule line breaks in
+    none-in_nothing (finding (number_of rule) line)
+    (subst (λ found. Contains found (finding (number_of rule) line)) (none-found (findings list) none) among)
 
 -- ---- where K13 isn't broken
 
@@ -321,9 +216,9 @@ broken-misplaced place line (next ∷ rest) not_whole =
         (later.0, breaks-rest place line Rule.Misplaced next rest later.0 allowed later.1)
     by_allowed false allowed deeper not_rest = (next.line, breaks-first place line Rule.Misplaced next rest (not_from_false (allows place next.says) allowed))
 
-pub whole-judged : (list : List Line) → judged None Place.Outset 1 list ≡ None → is_whole Place.Outset list ≡ true
-whole-judged list none =
+pub whole-list : (list : List Line) → least_of (findings list) ≡ None → is_whole Place.Outset list ≡ true
+whole-list list none =
     elim (cases_Bool (is_whole Place.Outset list)) [
       | inl whole ↦ whole
-      | inr open_still ↦ let broken = broken-misplaced Place.Outset 1 list open_still in absurd (none-judged list none Rule.Misplaced broken.0 broken.1)
+      | inr open_still ↦ let broken = broken-misplaced Place.Outset 1 list open_still in absurd (none-broken list none Rule.Misplaced broken.0 broken.1)
     ]

@@ -2,20 +2,21 @@
 use Rattle.std.proofs.Common.{◌≡◌, ℕ, true, List, None, inl, inr}
 use Rattle.std.proofs.lemmas.Bool.{cases_Bool}
 use Rattle.dc_tree.specs.Blocks.{Line, Source}
+use Rattle.dc_tree.specs.Findings.{least_of}
 use Rattle.dc_nest.specs.declared.place.Place.{Place}
 use Rattle.dc_nest.specs.declared.rule.Rule.{Rule}
 use Rattle.dc_nest.specs.Rules.{Breaks}
-use Rattle.dc_nest.specs.Judging.{judged, is_whole}
+use Rattle.dc_nest.specs.Judging.{findings, is_whole}
 use Rattle.dc_nest.specs.Ahead.{ReadsProgram, ProgramAhead}
 use Rattle.dc_nest.specs.Answer.{Nests}
-use Rattle.dc_nest.proofs.Judged.{none-judged, whole-judged, broken-misplaced}
+use Rattle.dc_nest.proofs.Judged.{none-broken, whole-list, broken-misplaced}
 use Rattle.dc_nest.proofs.Found.{program-found}
 
-pub unbroken-ahead : (list : List Line) → judged None Place.Outset 1 list ≡ None → ProgramAhead list
-unbroken-ahead list none = program-found list (whole-judged list none)
+pub unbroken-ahead : (list : List Line) → least_of (findings list) ≡ None → ProgramAhead list
+unbroken-ahead list none = program-found list (whole-list list none)
 
-pub nests : (list : List Line) (source : Source) → judged None Place.Outset 1 list ≡ None → ReadsProgram source list → Nests list source
-nests list source none reads = record { none_broken = none-judged list none; is_nested = reads.nested; lists = reads.lines }
+pub nests : (list : List Line) (source : Source) → least_of (findings list) ≡ None → ReadsProgram source list → Nests list source
+nests list source none reads = record { none_broken = none-broken list none; is_nested = reads.nested; lists = reads.lines }
 
 pub some-source : (list : List Line) → ((rule : Rule) (line : ℕ) → Breaks rule list line → ⊥) → (source : Source) × Nests list source
 some-source list none =

@@ -1,22 +1,19 @@
 -- What the nesting of statements answers.
-use Rattle.std.specs.Prelude.{◌≡◌, ℕ, ◌<◌, List, map, Result, Ok, Err}
+use Rattle.std.specs.Prelude.{◌≡◌, ℕ, List, map, Result, Ok, Err}
 use Rattle.dc_tree.specs.declared.fail.Fail.{Fail}
 use Rattle.dc_tree.specs.declared.fail.Refusal.{Refusal}
 use Rattle.dc_tree.specs.declared.program.Lined.{Lined}
 use Rattle.dc_tree.specs.declared.program.Program.{Program}
 use Rattle.dc_tree.specs.Blocks.{Line, line_of, Source, source_of}
+use Rattle.dc_tree.specs.Findings.{IsFirst, numbered}
 use Rattle.dc_tree.specs.Listing.{listed}
 use Rattle.dc_nest.specs.declared.rule.Rule.{Rule}
 use Rattle.dc_nest.specs.Rules.{Breaks, number_of}
 use Rattle.dc_nest.specs.Nested.{IsNested}
 
--- The refusal names a rule that is broken on its line. No rule is broken on an earlier line, and no lesser one on this line.
-pub record IsFirst (list : List Line) (refusal : Refusal) : Type 0 where
-  pub rule : Rule
-  pub rule_is : refusal.rule ≡ number_of rule
-  pub breaks : Breaks rule list refusal.line
-  pub no_earlier : (other : Rule) (line : ℕ) → line < refusal.line → Breaks other list line → ⊥
-  pub no_lesser : (other : Rule) → number_of other < refusal.rule → Breaks other list refusal.line → ⊥
+-- The rules by their numbers.
+abbrev pub broken_in : List Line → ℕ → ℕ → Type 0
+broken_in list = numbered number_of (λ rule line. Breaks rule list line)
 
 -- The statements break no rule, and are those of this program in the order of its text, in which closings fit openings.
 pub record Nests (list : List Line) (source : Source) : Type 0 where
@@ -28,7 +25,7 @@ pub record Nests (list : List Line) (source : Source) : Type 0 where
 -- memory is free.
 abbrev pub Answers : List Lined → Result Program Fail → Type 0
 Answers list (Ok program) = Nests (map line_of list) (source_of program)
-Answers list (Err (Fail.Refused refusal)) = IsFirst (map line_of list) refusal
+Answers list (Err (Fail.Refused refusal)) = IsFirst (broken_in (map line_of list)) refusal
 Answers list (Err Fail.NoMemory) = Unit {0}
 
 -- ---- the laws
@@ -39,7 +36,7 @@ IsOneTree = (a b : Source) → IsNested a → IsNested b → listed a ≡ listed
 
 -- Two first refusals of a list are one.
 abbrev pub IsOneRefusal : Type 0
-IsOneRefusal = (list : List Line) (a b : Refusal) → IsFirst list a → IsFirst list b → a ≡ b
+IsOneRefusal = (list : List Line) (a b : Refusal) → IsFirst (broken_in list) a → IsFirst (broken_in list) b → a ≡ b
 
 -- Statements that break no rule are those of a program.
 abbrev pub IsSomeTree : Type 0

@@ -1,43 +1,33 @@
--- How the first broken rule is found: over the statements in their order, the least refusal so far is kept.
-use Rattle.std.specs.Prelude.{ℕ, Bool, not, ◌&&◌, ◌||◌, ◌==◌, nat_lt, cond, List, [], ◌∷◌, Option, None, Some}
+-- How the first broken rule is found: over the statements in their order, a finding is noted for each rule that one breaks.
+use Rattle.std.specs.Prelude.{ℕ, Bool, not, ◌&&◌, if◌then◌else◌, List, [], ◌∷◌, ◌++◌, flat_map}
 use Rattle.dc_tree.specs.declared.fail.Refusal.{Refusal}
 use Rattle.dc_tree.specs.Blocks.{Line}
+use Rattle.dc_tree.specs.Findings.{finding_if}
 use Rattle.dc_nest.specs.declared.place.Place.{Place}
 use Rattle.dc_nest.specs.declared.rule.Rule.{Rule}
 use Rattle.dc_nest.specs.Places.{allows, behind, is_ended}
 use Rattle.dc_nest.specs.Rules.{breaks_at, number_of}
 
-abbrev pub refusal_of : Rule → ℕ → Refusal
-refusal_of rule line = record { rule = number_of rule; line = line }
-
--- on an earlier line, or a lesser rule on the same line
-abbrev pub is_before : Refusal → Refusal → Bool
-is_before a b = nat_lt a.line b.line || a.line == b.line && nat_lt a.rule b.rule
-
-abbrev pub lesser : Option Refusal → Refusal → Refusal
-lesser None refusal = refusal
-lesser (Some first) refusal = cond (is_before refusal first) refusal first
-
--- the first refusal, where this one comes to it if the rule is broken
-abbrev pub noted : Bool → Refusal → Option Refusal → Option Refusal
-noted broken refusal first = cond broken (Some (lesser first refusal)) first
-
-abbrev pub noted_all : (Rule → Bool) → ℕ → List Rule → Option Refusal → Option Refusal
-noted_all broken line [] first = first
-noted_all broken line (rule ∷ rules) first = noted_all broken line rules (noted (broken rule) (refusal_of rule line) first)
+-- a finding where a statement breaks a rule in its place
+abbrev pub finding_of : Rule → Place → Line → List Refusal
+finding_of rule place line = finding_if (breaks_at rule place line.says) (number_of rule) line.line
 
 abbrev pub all_rules : List Rule
 all_rules = Rule.Misplaced ∷ Rule.TooDeep ∷ Rule.OtherName ∷ Rule.NoLoop ∷ Rule.Strays ∷ Rule.Confined ∷ []
 
--- with the rules that a statement breaks
-abbrev pub told : Place → Line → Option Refusal → Option Refusal
-told place line first = noted_all (λ rule. breaks_at rule place line.says) line.line all_rules first
+-- the rules that a statement breaks in its place
+abbrev pub findings_at : Place → Line → List Refusal
+findings_at place line = flat_map (λ rule. finding_of rule place line) all_rules
 
--- The least refusal, where this one was found in front of a place, and this is the line of the statement in front of it.
-abbrev pub judged : Option Refusal → Place → ℕ → List Line → Option Refusal
-judged first place line [] = noted (not (is_ended place)) (refusal_of Rule.Misplaced line) first
-judged first place line (next ∷ rest) =
-    cond (allows place next.says) (judged (told place next first) (behind place next.says) next.line rest) (told place next first)
+-- What the statements break from a place on, up to the first that isn't allowed where it stands. This is the line of the
+-- statement in front of the place.
+abbrev pub findings_from : Place → ℕ → List Line → List Refusal
+findings_from place line [] = finding_if (not (is_ended place)) (number_of Rule.Misplaced) line
+findings_from place line (next ∷ rest) =
+    findings_at place next ++ (if allows place next.says then findings_from (behind place next.says) next.line rest else [])
+
+abbrev pub findings : List Line → List Refusal
+findings list = findings_from Place.Outset 1 list
 
 -- Each statement is allowed where it stands, and the last ends the program.
 abbrev pub is_whole : Place → List Line → Bool

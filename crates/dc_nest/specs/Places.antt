@@ -1,7 +1,7 @@
 -- Where a statement stands, which statements a place allows, and the place behind one. The order of statements is
 -- after ISO/IEC 1539-1:2023, clauses 5.1 and 5.3.2, constructs after 11.1, and procedures after 15.6.2. That a procedure
 -- has no USE, and that nothing but declarations stands in front of executable statements, are this project's own.
-use Rattle.std.specs.Prelude.{Bool, true, false, not, ◌&&◌, List, [], ◌∷◌, Option, None, Some}
+use Rattle.std.specs.Prelude.{Bool, true, false, not, ◌&&◌, List, [], ◌∷◌, slice_get, Option, None, Some}
 use Rattle.std.specs.Option.{option_map_or}
 use Rattle.dc_tree.specs.declared.stmt.Unit.{Unit}
 use Rattle.dc_tree.specs.Statements.{Name, Statement, program_line, use_line, implicit_none, declare, contains_line, procedure_line, end_line}
@@ -15,11 +15,6 @@ use Rattle.dc_nest.specs.declared.place.Scope.{Scope}
 use Rattle.dc_nest.specs.declared.place.Place.{Place}
 
 -- ---- what is known of a place
-
--- the first item of a list
-abbrev pub top : {T : Type 0} → List T → Option T
-top [] = None
-top (first ∷ rest) = Some first
 
 abbrev pub under_top : {T : Type 0} → List T → List T
 under_top [] = []
@@ -35,7 +30,7 @@ open_at (Place.Within scope position) = open_in position
 open_at _ = []
 
 abbrev pub innermost : Position → Option Construct
-innermost position = top (open_in position)
+innermost position = slice_get (open_in position) 0
 
 -- whether the innermost open construct is such a one
 abbrev pub directly_in : (Construct → Bool) → Position → Bool

@@ -1,7 +1,7 @@
 -- The rules of nesting, K13 to K18. The names at ends are after ISO/IEC 1539-1:2023, 11.1.7.2, 14.1 and 15.6.2, the loops of
 -- CYCLE and EXIT, and that these leave no DO CONCURRENT, after 11.1.7.4.4 and 11.1.12, and RETURN after 15.6.2.7. The limit of
 -- K14, K18, the numbers of the rules, and the lines that they name, are this project's own.
-use Rattle.std.specs.Prelude.{ℕ, Bool, true, false, not, ◌&&◌, ◌||◌, cond, ◌==◌, nat_le, List, [], ◌∷◌, length, Option, None, Some, IsTrue}
+use Rattle.std.specs.Prelude.{ℕ, Bool, true, false, not, ◌&&◌, ◌||◌, cond, ◌==◌, nat_le, List, [], ◌∷◌, length, slice_get, Option, None, Some, IsTrue}
 use Rattle.std.specs.List.{list_any}
 use Rattle.std.specs.Option.{option_map_or}
 use Rattle.std.specs.Str.{bytes_eq}
@@ -14,7 +14,7 @@ use Rattle.dc_nest.specs.declared.place.Scope.{Scope}
 use Rattle.dc_nest.specs.declared.place.Place.{Place}
 use Rattle.dc_nest.specs.declared.place.Aim.{Aim}
 use Rattle.dc_nest.specs.declared.rule.Rule.{Rule}
-use Rattle.dc_nest.specs.Places.{top, open_at, is_program, allows, behind, is_ended}
+use Rattle.dc_nest.specs.Places.{open_at, is_program, allows, behind, is_ended}
 
 -- ---- what one statement may break where it stands
 
@@ -43,7 +43,7 @@ label_of _ = None
 
 -- the name of the innermost construct, if it has one
 abbrev pub label_at : Place → Option Name
-label_at place = option_map_or label_of (top (open_at place)) None
+label_at place = option_map_or label_of (slice_get (open_at place) 0) None
 
 abbrev pub name_of : Scope → Name
 name_of scope = option_map_or (λ (heading : Heading). heading.name) scope.procedure scope.program

@@ -11,8 +11,7 @@ ghost use Rattle.dc_nest.specs.Rules.{is_opening, is_too_deep, is_same_label, la
 use crate::allowing::{allows, is_program};
 use crate::place::{Aim, Construct, Place, Position};
 use crate::rule::Rule;
-use crate::stack::Stack;
-use dc_text::DcText;
+use dc_text::{DcText, Stack};
 use dc_tree::{Action, Stmt};
 
 /// So many constructs may be open.

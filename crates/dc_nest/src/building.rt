@@ -7,8 +7,7 @@ ghost use Rattle.dc_nest.specs.declared.form.Form.{Form};
 ghost use Rattle.dc_nest.specs.Ahead.{next_form, is_node_next, ReadsItem, ReadsBlock, ReadsPart, AddsArms, ReadsFront, ReadsUnit, ReadsProcedure, ReadsProcedures, ReadsProgram, ItemAhead, BlockAhead, PartAhead, ArmsAhead, UnitAhead, ProcedureAhead, ProceduresAhead, ProgramAhead};
 
 use crate::form::{Form, form_of};
-use crate::stack::Stack;
-use dc_text::{DcList, NoMemory};
+use dc_text::{DcList, NoMemory, Stack};
 use dc_tree::{Block, Lined, Node, Part, Procedure, Program};
 use std::alloc::Global;
 

@@ -11,7 +11,6 @@ mod moving;
 mod nesting;
 mod place;
 mod rule;
-mod stack;
 
 pub use law::{a_list_nests_to_one_program, an_unbroken_list_nests, the_first_refusal_is_one};
 pub use nesting::nest;

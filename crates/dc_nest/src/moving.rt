@@ -8,8 +8,7 @@ ghost use Rattle.dc_nest.specs.declared.place.Place.{Place};
 ghost use Rattle.dc_nest.specs.Places.{main_of, procedure_of, under_top, open_in, inside, known, outside, behind_inside, behind_end, behind};
 
 use crate::place::{Construct, Front, Heading, Place, Position, Scope};
-use crate::stack::Stack;
-use dc_text::{DcText, NoMemory};
+use dc_text::{DcText, NoMemory, Stack};
 use dc_tree::Stmt;
 use std::alloc::Global;
 

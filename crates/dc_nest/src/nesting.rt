@@ -2,20 +2,19 @@
 
 ghost use Rattle.std.specs.Prelude.{◌≡◌, None, map};
 ghost use Rattle.dc_tree.specs.Blocks.{line_of};
-ghost use Rattle.dc_nest.specs.declared.place.Place.{Place};
-ghost use Rattle.dc_nest.specs.Judging.{judged};
+ghost use Rattle.dc_tree.specs.Findings.{least_of};
+ghost use Rattle.dc_nest.specs.Judging.{findings};
 ghost use Rattle.dc_nest.specs.Answer.{Answers};
 
 use crate::building::program;
 use crate::judging::judge;
-use crate::stack::Stack;
-use dc_text::DcList;
+use dc_text::{DcList, Stack};
 use dc_tree::{Fail, Lined, Program};
 use std::alloc::Global;
 
 /// The tree of statements that break no rule. So no more than 64 constructs are open.
 fn build(alloc: Global, list: DcList<Lined>) -> Result<Program, Fail>
-    requires { judged None Place.Outset 1 (map line_of list) ≡ None }
+    requires { least_of (findings (map line_of list)) ≡ None }
     ensures { Answers list result }
 {
     let mut rest = Stack::from_list(list);
@@ -27,9 +26,6 @@ fn build(alloc: Global, list: DcList<Lined>) -> Result<Program, Fail>
 pub fn nest(alloc: Global, list: DcList<Lined>) -> Result<Program, Fail>
     ensures { Answers list result }
 {
-    let first = judge(alloc, list.as_slice())?;
-    match first {
-        Some(refusal) => Err(Fail::Refused(refusal)),
-        None => build(alloc, list),
-    }
+    judge(alloc, list.as_slice())?.pass()?;
+    build(alloc, list)
 }

@@ -1,7 +1,6 @@
 //! Where a statement stands.
 
-use crate::stack::Stack;
-use dc_text::DcText;
+use dc_text::{DcText, Stack};
 
 /// A construct whose end hasn't come.
 #[derive(Drop)]

@@ -52,6 +52,13 @@ impl<T> Stack<T> {
         self.len() == 0
     }
 
+    /// The items, the one that is taken next last.
+    pub fn as_slice(&self) -> &[T]
+        ensures { reverse result.now ≡ self.now }
+    {
+        self.items.as_slice()
+    }
+
     /// The item that is taken next.
     pub fn top(&self) -> Option<&T>
         ensures { option_copied result ≡ slice_get self.now 0 }

@@ -1,12 +1,12 @@
 -- The least finding is the first broken rule, and the first broken rule is one.
-use Rattle.std.proofs.Common.{◌≡◌, ℕ, ◌<◌, true, false, List, [], ◌∷◌, ◌++◌, Option, Some, None, refl, sym, ap, subst, ◌∙◌, inl, inr, arith, append_assoc, append-nil}
+use Rattle.std.proofs.Common.{◌≡◌, ℕ, ◌<◌, Bool, true, false, List, [], ◌∷◌, ◌++◌, Option, Some, None, refl, sym, ap, subst, ◌∙◌, inl, inr, arith, append_assoc, append-nil}
 use Rattle.std.specs.Prelude.{slice_index_or}
 use Rattle.std.specs.List.{All, Contains}
 use Rattle.std.proofs.lemmas.List.{drop_more}
-use Rattle.std.proofs.lemmas.Bool.{cases_Bool, cases_order}
-use Rattle.std.proofs.lemmas.List.Elements.{All-nil, All-push, All-contains, Contains-push, Contains-append_left}
+use Rattle.std.proofs.lemmas.Bool.{false≢true, cases_Bool, cases_order}
+use Rattle.std.proofs.lemmas.List.Elements.{All-nil, All-push, All-contains, Contains-push, Contains-push_cases, Contains-append_left}
 use Rattle.dc_tree.specs.declared.fail.Refusal.{Refusal}
-use Rattle.dc_tree.specs.Findings.{IsFirst, finding, found_in, precedes, least_with, least_with_all, least_of}
+use Rattle.dc_tree.specs.Findings.{IsFirst, finding, finding_if, found_in, precedes, least_with, least_with_all, least_of}
 
 -- ---- one at most
 
@@ -38,10 +38,10 @@ not_itself a = grind arith
 not_before : (a b c : Refusal) → precedes a b ≡ false → precedes c b ≡ true → precedes a c ≡ false
 not_before a b c first second = grind (arith, first, second)
 
-not_before-line : (a b : Refusal) → precedes a b ≡ false → a.line < b.line → ⊥
+pub not_before-line : (a b : Refusal) → precedes a b ≡ false → a.line < b.line → ⊥
 not_before-line a b first less = grind (arith, first, less)
 
-not_before-rule : (a b : Refusal) → precedes a b ≡ false → a.line ≡ b.line → a.rule < b.rule → ⊥
+pub not_before-rule : (a b : Refusal) → precedes a b ≡ false → a.line ≡ b.line → a.rule < b.rule → ⊥
 not_before-rule a b first same less = grind (arith, first, same, less)
 
 -- ---- the least of a list
@@ -91,6 +91,30 @@ least-is_first findings refusal some =
       no_earlier = λ rule line less other. not_before-line (finding rule line) refusal (All-contains (λ f. precedes f refusal ≡ false) findings (finding rule line) is.1 other) less;
       no_lesser = λ rule less other. not_before-rule (finding rule refusal.line) refusal (All-contains (λ f. precedes f refusal ≡ false) findings (finding rule refusal.line) is.1 other) refl less;
     }
+
+-- ---- a finding where a test holds
+
+pub none-in_nothing : (refusal : Refusal) → Contains [] refusal → ⊥
+none-in_nothing refusal among = let less : among.0 < 0 = among.1 in absurd (omega (arith, less))
+
+pub found_if-holds : (test : Bool) (rule line : ℕ) (refusal : Refusal) → Contains (finding_if test rule line) refusal → (test ≡ true) × (finding rule line ≡ refusal)
+found_if-holds true rule line refusal among =
+    elim (Contains-push_cases [] (finding rule line) refusal among) [ inl none ↦ absurd (none-in_nothing refusal none) | inr same ↦ (refl, same) ]
+found_if-holds false rule line refusal among = absurd (none-in_nothing refusal among)
+
+pub holds-found_if : (test : Bool) (rule line : ℕ) → test ≡ true → Contains (finding_if test rule line) (finding rule line)
+holds-found_if true rule line holds = Contains-push [] (finding rule line)
+holds-found_if false rule line holds = absurd (false≢true holds)
+
+-- ---- a first refusal by other words
+
+-- The same rules are broken on the same lines.
+pub first-same : (one other : ℕ → ℕ → Type 0) (refusal : Refusal) → ((rule line : ℕ) → one rule line → other rule line) → ((rule line : ℕ) → other rule line → one rule line) → IsFirst one refusal → IsFirst other refusal
+first-same one other refusal there back first = record {
+  broken = there refusal.rule refusal.line first.broken;
+  no_earlier = λ rule line less is. first.no_earlier rule line less (back rule line is);
+  no_lesser = λ rule less is. first.no_lesser rule less (back rule refusal.line is);
+}
 
 -- ---- findings after findings
 
