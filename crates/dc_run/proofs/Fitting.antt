@@ -14,10 +14,10 @@ use Rattle.dc_int.specs.Sorts.{whole, fitted}
 use Rattle.dc_int.specs.Store.{Bounds, elements_in, position_in}
 use Rattle.dc_int.proofs.Fits.{wrapped-fits}
 use Rattle.dc_code.specs.Computation.{give, fail, read, define, undefine, contribute, ask, pause, sequence}
-use Rattle.dc_code.specs.Troubles.{Computing, Slots, Piece, Event, write_line, take_elements}
+use Rattle.dc_code.specs.Troubles.{Computing, Event, write_line, take_elements}
 use Rattle.dc_tree.specs.declared.symbols.Symbol.{Symbol}
 use Rattle.dc_tree.specs.declared.token.Suffix.{Suffix}
-use Rattle.dc_tree.specs.Blocks.{Line, Items, Source, none, and_then, plain, branch, select, loop}
+use Rattle.dc_tree.specs.Blocks.{Items, Source, none, and_then, plain, branch, select, loop}
 use Rattle.dc_tree.specs.Entities.{Entity, outside, slots, dummy, constant, function, subroutine, reduction, nothing, Scope, entity, main_scope}
 use Rattle.dc_tree.specs.Intrinsics.{intrinsic}
 use Rattle.dc_tree.specs.Operating.{joined_by}

@@ -4,7 +4,6 @@ use Rattle.std.specs.Prelude.{◌++◌, map, codes, ℤ, pos, negsuc}
 use Rattle.std.specs.Fmt.{digits}
 use Rattle.std.specs.Int.{int_wrap}
 use Rattle.dc_int.specs.declared.kind.Kind.{Kind}
-use Rattle.dc_int.specs.declared.variable.Shape.{Shape}
 use Rattle.dc_int.specs.Shapes.{store_fits}
 use Rattle.dc_int.specs.Store.{Bounds, Variable, Store, value_at, cell_of, put_at}
 use Rattle.dc_code.specs.Inner.{judging}

@@ -1,14 +1,16 @@
--- Each store of a run fits the declared variables.
-use Rattle.std.proofs.Common.{◌≡◌, ℕ, zero, suc, ◌+◌, Bool, true, false, ◌&&◌, List, [], ◌∷◌, map, length, All, Option, Some, None, Result, Ok, Err, refl, sym, ap, ap₂, ◌∙◌, subst, eq-eqb}
+-- Each store of a run fits the declared variables, and those around its loops are among them.
+use Rattle.std.proofs.Common.{◌≡◌, ℕ, zero, suc, ◌+◌, Bool, true, false, ◌&&◌, List, [], ◌∷◌, map, length, All, Option, Some, None, Result, Ok, Err, refl, sym, ap, ap₂, ◌∙◌, subst, lit<, eq-eqb}
 use Rattle.std.proofs.lemmas.Bool.{and_parts}
-use Rattle.std.proofs.lemmas.List.Elements.{All-nil, All-cons}
+use Rattle.std.proofs.lemmas.List.Elements.{All-nil, All-cons, All-weaker, Contains-get_or, Contains-append_left, Contains-append_right}
 use Rattle.std.proofs.lemmas.Option.{none-some, same_Some}
 use Rattle.std.specs.Prelude.{ℤ, pos, nat_eq, nat_le, replicate, if◌then◌else◌}
-use Rattle.std.specs.List.{list_all}
+use Rattle.std.specs.List.{list_all, Contains}
+use Rattle.dc_int.specs.declared.access.ElementId.{ElementId}
 use Rattle.dc_int.specs.declared.fault.FaultKind.{FaultKind}
 use Rattle.dc_int.specs.declared.kind.Kind.{Kind}
 use Rattle.dc_int.specs.declared.variable.Shape.{Shape}
 use Rattle.dc_int.specs.Shapes.{cell_fits, variable_fits, store_fits}
+use Rattle.dc_int.specs.Sorts.{Sort}
 use Rattle.dc_int.specs.Store.{Bounds, Store, elements_in, value_at, put_at, bounds_of}
 use Rattle.dc_int.proofs.Fits.{fits-put, undefined-fits}
 use Rattle.dc_code.specs.Computation.{give, fail, read, define, undefine, contribute, ask, pause}
@@ -27,9 +29,8 @@ use Rattle.dc_meaning.proofs.EveryOrder.{visit-fits}
 use Rattle.dc_meaning.proofs.FirstStores.{begun, first-more}
 use Rattle.dc_meaning.proofs.Naming.{small-role, small-all}
 use Rattle.dc_meaning.proofs.Own.{AreDefault}
-use Rattle.dc_run.specs.Playing.{Visit, Outcome, Standing, Looping, piece_text, greatest_output, ends_with, fails_with, behind_output, behind_visit, with_input, with_store, takes_one, ends_reading, behind_loop, answered, played, looping_by, run}
-use Rattle.dc_run.specs.ReportLine.{Ending, done, bad}
-use Rattle.dc_run.specs.Stores.{declared_shapes, Fits, FitsAround, StoresFit, stores_taken, stores_read, stores_left, stores_behind, stores_from}
+use Rattle.dc_run.specs.Playing.{Visit, Outcome, Standing, Looping, piece_text, greatest_output, fails_with, behind_output, behind_visit, with_input, with_store, takes_one, takes_each, ends_reading, behind_loop, answered, played, looping_by, run}
+use Rattle.dc_run.specs.Stores.{declared_shapes, Fits, IsAmong, StoresFit, stores_taken, stores_taken_each, stores_read, stores_left, stores_behind, stores_from}
 use Rattle.dc_run.proofs.Beginnings.{small-parts}
 use Rattle.dc_run.proofs.Fitting.{TakesNothing, Keeps, main-keeps}
 
@@ -89,95 +90,176 @@ module _ (symbols : List Symbol) (looping : Looping)
   abbrev shapes : List Shape
   shapes = declared_shapes symbols
 
-  -- The stores that follow fit, and so do those around each loop.
-  record Good (outcome : Outcome) (stores : List Store) : Type 0 where
-    each : All (Fits symbols) stores
-    around : All (FitsAround symbols) outcome.visits
+  abbrev AllFit : List Store → Type 0
+  AllFit stores = All (Fits symbols) stores
 
   -- what follows a pause
-  abbrev GoodThen : (Standing → ℤ → Outcome) → (Standing → ℤ → List Store) → Type 0
-  GoodThen rest later = (then_at : Standing) (told : ℤ) → Fits symbols then_at.store → Good (rest then_at told) (later then_at told)
+  abbrev FitThen : (Standing → ℤ → List Store) → Type 0
+  FitThen later = (then_at : Standing) (told : ℤ) → Fits symbols then_at.store → AllFit (later then_at told)
 
-  good-end : (ending : Ending) → Good (ends_with ending) []
-  good-end ending = record { each = All-nil (Fits symbols); around = All-nil (FitsAround symbols) }
+  none-fit : AllFit []
+  none-fit = All-nil (Fits symbols)
 
-  good-more : (outcome : Outcome) (store : Store) (stores : List Store) → Fits symbols store → Good outcome stores → Good outcome (store ∷ stores)
-  good-more outcome store stores fits good = record { each = All-cons (Fits symbols) store stores fits good.each; around = good.around }
+  more-fit : (store : Store) (stores : List Store) → Fits symbols store → AllFit stores → AllFit (store ∷ stores)
+  more-fit store stores fits all = All-cons (Fits symbols) store stores fits all
 
-  good-line : (line : ℕ) (bytes : List ℕ) (next : Outcome) (stores : List Store) (room : Bool) → Good next stores
-      → Good (if room then behind_output bytes next else fails_with FaultKind.OutputFull line) (if room then stores else [])
-  good-line line bytes next stores true good = record { each = good.each; around = good.around }
-  good-line line bytes next stores false good = good-end _
+  written-fit : (stores : List Store) (room : Bool) → AllFit stores → AllFit (if room then stores else [])
+  written-fit stores true all = all
+  written-fit stores false all = none-fit
 
-  good-taken : (at : Standing) (line : ℕ) (taken : Result (ℤ × List ℕ) FaultKind) (rest : Standing → ℤ → Outcome) (later : Standing → ℤ → List Store) → Fits symbols at.store → GoodThen rest later
-      → Good (takes_one at line taken rest) (stores_taken at taken later)
-  good-taken at line (Ok (z, left)) rest later fits good = good (with_input at left) z fits
-  good-taken at line (Err fault) rest later fits good = good-end _
+  taken-fit : (at : Standing) (taken : Result (ℤ × List ℕ) FaultKind) (later : Standing → ℤ → List Store) → Fits symbols at.store → FitThen later → AllFit (stores_taken at taken later)
+  taken-fit at (Ok (z, left)) later fits all = all (with_input at left) z fits
+  taken-fit at (Err fault) later fits all = none-fit
 
-  good-read : (at : Standing) (line : ℕ) (ended : Result (List ℕ) FaultKind) (rest : Standing → ℤ → Outcome) (later : Standing → ℤ → List Store) → Fits symbols at.store → GoodThen rest later
-      → Good (ends_reading at line ended rest) (stores_read at ended later)
-  good-read at line (Ok left) rest later fits good = good (with_input at left) (pos 0) fits
-  good-read at line (Err fault) rest later fits good = good-end _
+  read-fit : (at : Standing) (ended : Result (List ℕ) FaultKind) (later : Standing → ℤ → List Store) → Fits symbols at.store → FitThen later → AllFit (stores_read at ended later)
+  read-fit at (Ok left) later fits all = all (with_input at left) (pos 0) fits
+  read-fit at (Err fault) later fits all = none-fit
 
-  module _ (at : Standing) (number turns : ℕ) (slots : Slots) (rest : Standing → ℤ → Outcome) (later : Standing → ℤ → List Store) (fits : Fits symbols at.store) (good : GoodThen rest later)
-      where
-    abbrev visit_by : Visited → Visit
-    visit_by found = record { loop = number; inside = slots; turns = turns; opening = at.store; verdict = found.verdict; after = found.store }
+  left-fit : (at : Standing) (said : Verdict) (store : Store) (left : ℕ) (later : Standing → ℤ → List Store) → Fits symbols store → FitThen later
+      → AllFit (stores_left at (record { verdict = said; store = store; turns = left }) later)
+  left-fit at go_on store left later fits all =
+      let then_at : Standing = record { store = store; input = at.input; used = at.used } in more-fit store (later then_at (pos left)) fits (all then_at (pos left) fits)
+  left-fit at (at_header trouble) store left later fits all = more-fit store [] fits none-fit
+  left-fit at (in_iteration trouble values) store left later fits all = more-fit store [] fits none-fit
+  left-fit at (race found first second) store left later fits all = more-fit store [] fits none-fit
 
-    -- a loop that stops the run
-    good-stop : (found : Visited) (ending : Ending) → Fits symbols found.store → Good (behind_visit (visit_by found) (ends_with ending)) (found.store ∷ [])
-    good-stop found ending after = record {
-      each = All-cons (Fits symbols) found.store [] after (All-nil (Fits symbols));
-      around = All-cons (FitsAround symbols) (visit_by found) [] (record { opening = fits; after = after }) (All-nil (FitsAround symbols));
-    }
+  behind-fit : (at : Standing) (event : Event) (later : Standing → ℤ → List Store) → TakesNothing event → Fits symbols at.store → FitThen later
+      → AllFit (stores_behind looping at event later)
+  behind-fit at (write_line line pieces) later takes fits all =
+      let used = at.used + length (line_of (map piece_text pieces)) in
+      let then_at : Standing = record { store = at.store; input = at.input; used = used } in
+      written-fit (later then_at (pos 0)) (nat_le used greatest_output) (all then_at (pos 0) fits)
+  behind-fit at (take_value line sort) later takes fits all = taken-fit at (input.take_value sort at.input) later fits all
+  behind-fit at (take_elements line sort elements) later takes fits all = absurd takes
+  behind-fit at (end_reading line items) later takes fits all = read-fit at (input.end_reading items at.input) later fits all
+  behind-fit at (enter_loop number turns slots) later takes fits all =
+      let found = looping number slots turns at.store in left-fit at found.verdict found.store found.turns later (kept number slots turns at.store fits) all
+  behind-fit at stop later takes fits all = none-fit
 
-    good-left : (said : Verdict) (store : Store) (left : ℕ) → Fits symbols store
-        → Good (behind_visit (visit_by (record { verdict = said; store = store; turns = left })) (behind_loop at (record { verdict = said; store = store; turns = left }) rest))
-        (stores_left at (record { verdict = said; store = store; turns = left }) later)
-    good-left go_on store left after =
-        let then_at : Standing = record { store = store; input = at.input; used = at.used } in
-        let next = good then_at (pos left) after in
-        record {
-          each = All-cons (Fits symbols) store (later then_at (pos left)) after next.each;
-          around =
-              All-cons (FitsAround symbols) (visit_by (record { verdict = go_on; store = store; turns = left })) (rest then_at (pos left)).visits (record { opening = fits; after = after })
-              next.around;
-        }
-    good-left (at_header trouble) store left after = good-stop (record { verdict = at_header trouble; store = store; turns = left }) _ after
-    good-left (in_iteration trouble values) store left after = good-stop (record { verdict = in_iteration trouble values; store = store; turns = left }) _ after
-    good-left (race found first second) store left after = good-stop (record { verdict = race found first second; store = store; turns = left }) _ after
-
-  good-pause : (at : Standing) (event : Event) (rest : Standing → ℤ → Outcome) (later : Standing → ℤ → List Store) → TakesNothing event → Fits symbols at.store → GoodThen rest later
-      → Good (answered looping at event rest) (stores_behind looping at event later)
-  good-pause at (write_line line pieces) rest later takes fits good =
-      let bytes = line_of (map piece_text pieces) in
-      let then_at : Standing = record { store = at.store; input = at.input; used = at.used + length bytes } in
-      good-line line bytes (rest then_at (pos 0)) (later then_at (pos 0)) (nat_le (at.used + length bytes) greatest_output) (good then_at (pos 0) fits)
-  good-pause at (take_value line sort) rest later takes fits good = good-taken at line (input.take_value sort at.input) rest later fits good
-  good-pause at (take_elements line sort elements) rest later takes fits good = absurd takes
-  good-pause at (end_reading line items) rest later takes fits good = good-read at line (input.end_reading items at.input) rest later fits good
-  good-pause at (enter_loop number turns slots) rest later takes fits good =
-      let found = looping number slots turns at.store in
-      good-left at number turns slots rest later fits good found.verdict found.store found.turns (kept number slots turns at.store fits)
-  good-pause at stop rest later takes fits good = good-end done
-
-  good-play : (at : Standing) (c : Computing Unit) → Keeps shapes c → Fits symbols at.store → Good (played looping at c) (stores_from looping at c)
-  good-play at (give end) keeps fits = good-end done
-  good-play at (fail failure) keeps fits = good-end (bad failure)
-  good-play at (read x line rest) keeps fits = good-play at (rest (value_at at.store x)) (keeps (value_at at.store x)) fits
-  good-play at (define x z line rest) keeps fits =
+  from-fit : (at : Standing) (c : Computing Unit) → Keeps shapes c → Fits symbols at.store → AllFit (stores_from looping at c)
+  from-fit at (give end) keeps fits = none-fit
+  from-fit at (fail failure) keeps fits = none-fit
+  from-fit at (read x line rest) keeps fits = from-fit at (rest (value_at at.store x)) (keeps (value_at at.store x)) fits
+  from-fit at (define x z line rest) keeps fits =
       let store = put_at at.store x (Some z) in
       let after : Fits symbols store = fits-put shapes at.store x (Some z) fits keeps.0 in
-      good-more (played looping (with_store at store) rest) store (stores_from looping (with_store at store) rest) after (good-play (with_store at store) rest keeps.1 after)
-  good-play at (undefine x line rest) keeps fits =
+      more-fit store (stores_from looping (with_store at store) rest) after (from-fit (with_store at store) rest keeps.1 after)
+  from-fit at (undefine x line rest) keeps fits =
       let store = put_at at.store x None in
       let after : Fits symbols store = fits-put shapes at.store x None fits (undefined-fits shapes x) in
-      good-more (played looping (with_store at store) rest) store (stores_from looping (with_store at store) rest) after (good-play (with_store at store) rest keeps after)
-  good-play at (contribute x op z rest) keeps fits = good-play at rest keeps fits
-  good-play at (ask variable rest) keeps fits = good-play at (rest (bounds_of at.store variable)) (keeps (bounds_of at.store variable)) fits
-  good-play at (pause event rest) keeps fits =
-      good-pause at event (λ then_at told. played looping then_at (rest told)) (λ then_at told. stores_from looping then_at (rest told)) keeps.0 fits
-      (λ then_at told after. good-play then_at (rest told) (keeps.1 told) after)
+      more-fit store (stores_from looping (with_store at store) rest) after (from-fit (with_store at store) rest keeps after)
+  from-fit at (contribute x op z rest) keeps fits = from-fit at rest keeps fits
+  from-fit at (ask variable rest) keeps fits = from-fit at (rest (bounds_of at.store variable)) (keeps (bounds_of at.store variable)) fits
+  from-fit at (pause event rest) keeps fits =
+      behind-fit at event (λ then_at told. stores_from looping then_at (rest told)) keeps.0 fits (λ then_at told after. from-fit then_at (rest told) (keeps.1 told) after)
+
+-- ---- its loops
+
+here-is : (store : Store) (stores : List Store) → Contains (store ∷ stores) store
+here-is store stores = Contains-append_left (store ∷ []) stores store (Contains-get_or (store ∷ []) 0 store (lit< tt))
+
+later-is : (store : Store) (stores : List Store) (other : Store) → Contains stores other → Contains (store ∷ stores) other
+later-is store stores other is = Contains-append_right (store ∷ []) stores other is
+
+among-more : (store : Store) (stores : List Store) (visits : List Visit) → All (IsAmong stores) visits → All (IsAmong (store ∷ stores)) visits
+among-more store stores visits all =
+    All-weaker (IsAmong stores) (IsAmong (store ∷ stores))
+    (λ visit is. record { opening = later-is store stores visit.opening is.opening; after = later-is store stores visit.after is.after }) visits all
+
+-- The stores around each loop of a run from where it stands are among the store here and those that follow.
+abbrev AllAmong : Standing → Outcome → List Store → Type 0
+AllAmong at outcome stores = All (IsAmong (at.store ∷ stores)) outcome.visits
+
+abbrev AmongThen : (Standing → ℤ → Outcome) → (Standing → ℤ → List Store) → Type 0
+AmongThen rest later = (then_at : Standing) (told : ℤ) → AllAmong then_at (rest then_at told) (later then_at told)
+
+no-visits : (stores : List Store) → All (IsAmong stores) []
+no-visits stores = All-nil (IsAmong stores)
+
+written-among : (at : Standing) (line : ℕ) (bytes : List ℕ) (next : Outcome) (stores : List Store) (room : Bool) → AllAmong at next stores
+    → AllAmong at (if room then behind_output bytes next else fails_with FaultKind.OutputFull line) (if room then stores else [])
+written-among at line bytes next stores true all = all
+written-among at line bytes next stores false all = no-visits (at.store ∷ [])
+
+taken-among : (at : Standing) (line : ℕ) (taken : Result (ℤ × List ℕ) FaultKind) (rest : Standing → ℤ → Outcome) (later : Standing → ℤ → List Store) → AmongThen rest later
+    → AllAmong at (takes_one at line taken rest) (stores_taken at taken later)
+taken-among at line (Ok (z, left)) rest later all = all (with_input at left) z
+taken-among at line (Err fault) rest later all = no-visits (at.store ∷ [])
+
+read-among : (at : Standing) (line : ℕ) (ended : Result (List ℕ) FaultKind) (rest : Standing → ℤ → Outcome) (later : Standing → ℤ → List Store) → AmongThen rest later
+    → AllAmong at (ends_reading at line ended rest) (stores_read at ended later)
+read-among at line (Ok left) rest later all = all (with_input at left) (pos 0)
+read-among at line (Err fault) rest later all = no-visits (at.store ∷ [])
+
+each-among : (line : ℕ) (sort : Sort) (elements : List ElementId) (at : Standing) (rest : Standing → ℤ → Outcome) (later : Standing → ℤ → List Store) → AmongThen rest later
+    → AllAmong at (takes_each line sort elements at rest) (stores_taken_each sort elements at later)
+each-among line sort [] at rest later all = all at (pos 0)
+each-among line sort (x ∷ elements) at rest later all =
+    taken-among at line (input.take_value sort at.input)
+    (λ then_at z. takes_each line sort elements (record { store = put_at then_at.store x (Some z); input = then_at.input; used = then_at.used }) rest)
+    (λ then_at z. put_at then_at.store x (Some z) ∷ stores_taken_each sort elements (record { store = put_at then_at.store x (Some z); input = then_at.input; used = then_at.used }) later)
+    (λ then_at z.
+    let next : Standing = record { store = put_at then_at.store x (Some z); input = then_at.input; used = then_at.used } in
+    among-more then_at.store (next.store ∷ stores_taken_each sort elements next later) (takes_each line sort elements next rest).visits
+    (each-among line sort elements next rest later all))
+
+module _ (at : Standing) (number turns : ℕ) (slots : Slots) (rest : Standing → ℤ → Outcome) (later : Standing → ℤ → List Store) (all : AmongThen rest later) where
+  abbrev visit_by : Visited → Visit
+  visit_by found = record { loop = number; inside = slots; turns = turns; opening = at.store; verdict = found.verdict; after = found.store }
+
+  visit-among : (found : Visited) (stores : List Store) → IsAmong (at.store ∷ found.store ∷ stores) (visit_by found)
+  visit-among found stores = record {
+    opening = here-is at.store (found.store ∷ stores);
+    after = later-is at.store (found.store ∷ stores) found.store (here-is found.store stores);
+  }
+
+  -- a loop that stops the run
+  stop-among : (found : Visited) → All (IsAmong (at.store ∷ found.store ∷ [])) (visit_by found ∷ [])
+  stop-among found =
+      All-cons (IsAmong (at.store ∷ found.store ∷ [])) (visit_by found) [] (visit-among found []) (no-visits (at.store ∷ found.store ∷ []))
+
+  left-among : (said : Verdict) (store : Store) (left : ℕ)
+      → AllAmong at (behind_visit (visit_by (record { verdict = said; store = store; turns = left })) (behind_loop at (record { verdict = said; store = store; turns = left }) rest))
+      (stores_left at (record { verdict = said; store = store; turns = left }) later)
+  left-among go_on store left =
+      let found : Visited = record { verdict = go_on; store = store; turns = left } in
+      let then_at : Standing = record { store = store; input = at.input; used = at.used } in
+      let stores = later then_at (pos left) in
+      let visits = (rest then_at (pos left)).visits in
+      All-cons (IsAmong (at.store ∷ store ∷ stores)) (visit_by found) visits (visit-among found stores)
+      (among-more at.store (store ∷ stores) visits (all then_at (pos left)))
+  left-among (at_header trouble) store left = stop-among (record { verdict = at_header trouble; store = store; turns = left })
+  left-among (in_iteration trouble values) store left = stop-among (record { verdict = in_iteration trouble values; store = store; turns = left })
+  left-among (race found first second) store left = stop-among (record { verdict = race found first second; store = store; turns = left })
+
+module _ (looping : Looping) where
+  pause-among : (at : Standing) (event : Event) (rest : Standing → ℤ → Outcome) (later : Standing → ℤ → List Store) → AmongThen rest later
+      → AllAmong at (answered looping at event rest) (stores_behind looping at event later)
+  pause-among at (write_line line pieces) rest later all =
+      let bytes = line_of (map piece_text pieces) in
+      let then_at : Standing = record { store = at.store; input = at.input; used = at.used + length bytes } in
+      written-among at line bytes (rest then_at (pos 0)) (later then_at (pos 0)) (nat_le (at.used + length bytes) greatest_output) (all then_at (pos 0))
+  pause-among at (take_value line sort) rest later all = taken-among at line (input.take_value sort at.input) rest later all
+  pause-among at (take_elements line sort elements) rest later all = each-among line sort elements at rest later all
+  pause-among at (end_reading line items) rest later all = read-among at line (input.end_reading items at.input) rest later all
+  pause-among at (enter_loop number turns slots) rest later all =
+      let found = looping number slots turns at.store in left-among at number turns slots rest later all found.verdict found.store found.turns
+  pause-among at stop rest later all = no-visits (at.store ∷ [])
+
+  play-among : (at : Standing) (c : Computing Unit) → AllAmong at (played looping at c) (stores_from looping at c)
+  play-among at (give end) = no-visits (at.store ∷ [])
+  play-among at (fail failure) = no-visits (at.store ∷ [])
+  play-among at (read x line rest) = play-among at (rest (value_at at.store x))
+  play-among at (define x z line rest) =
+      let next = with_store at (put_at at.store x (Some z)) in
+      among-more at.store (next.store ∷ stores_from looping next rest) (played looping next rest).visits (play-among next rest)
+  play-among at (undefine x line rest) =
+      let next = with_store at (put_at at.store x None) in
+      among-more at.store (next.store ∷ stores_from looping next rest) (played looping next rest).visits (play-among next rest)
+  play-among at (contribute x op z rest) = play-among at rest
+  play-among at (ask variable rest) = play-among at (rest (bounds_of at.store variable))
+  play-among at (pause event rest) =
+      pause-among at event (λ then_at told. played looping then_at (rest told)) (λ then_at told. stores_from looping then_at (rest told)) (λ then_at told. play-among then_at (rest told))
 
 -- Each store of a run fits.
 pub stores-fit : (symbols : List Symbol) (source : Source) (turns : ℕ) (given : List ℕ) → is_small_program symbols source ≡ true
@@ -187,8 +269,12 @@ stores-fit symbols source turns given small =
     let start = begins symbols (small-all symbols parts.0).1 in
     let looping = looping_by judging symbols source turns in
     let at : Standing = record { store = first_store symbols; input = given; used = 0 } in
+    let c = main_computation symbols source turns in
     let keeps = main-keeps (declared_shapes symbols) start.default symbols source turns parts.1 in
-    let good =
-    good-play symbols looping (λ number slots left store fits. visit-fits symbols source small turns number slots (declared_shapes symbols) start.default left store fits) at
-    (main_computation symbols source turns) keeps start.fits in
-    record { each = All-cons (Fits symbols) (first_store symbols) (stores_from looping at (main_computation symbols source turns)) start.fits good.each; around = good.around }
+    record {
+      each =
+          All-cons (Fits symbols) (first_store symbols) (stores_from looping at c) start.fits
+          (from-fit symbols looping
+          (λ number slots left store fits. visit-fits symbols source small turns number slots (declared_shapes symbols) start.default left store fits) at c keeps start.fits);
+      among = play-among looping at c;
+    }

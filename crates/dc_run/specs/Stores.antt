@@ -1,6 +1,7 @@
 -- The stores of a run, one after another, and what it is for them to fit the declared variables. This project's
 -- own, on ISO/IEC 1539-1:2023, clauses 7.4, 8.5.8 and 19.6.
 use Rattle.std.specs.Prelude.{◌≡◌, ℕ, ◌+◌, nat_le, true, List, [], ◌∷◌, map, filter_map, length, All, Option, Some, None, Result, Ok, Err, if◌then◌else◌, ℤ, pos}
+use Rattle.std.specs.List.{Contains}
 use Rattle.dc_int.specs.declared.access.ElementId.{ElementId}
 use Rattle.dc_int.specs.declared.fault.FaultKind.{FaultKind}
 use Rattle.dc_int.specs.declared.variable.Shape.{Shape}
@@ -101,14 +102,14 @@ stores_of rule symbols source turns given =
 
 -- ---- the law
 
--- A loop is reached with a store that fits, and the store after it fits too.
-pub record FitsAround (symbols : List Symbol) (visit : Visit) : Type 0 where
-  pub opening : Fits symbols visit.opening
-  pub after : Fits symbols visit.after
+-- The stores before and after a loop that a run reaches are among its stores.
+pub record IsAmong (stores : List Store) (visit : Visit) : Type 0 where
+  pub opening : Contains stores visit.opening
+  pub after : Contains stores visit.after
 
--- Each store of a run fits the declared variables, and so do the stores before and after each loop that it
--- reaches: what a variable holds is always undefined or a value of its kind, and each variable has all the
--- elements within its bounds, and no other.
+-- Each store of a run fits the declared variables: what a variable holds is always undefined or a value of its
+-- kind, and each variable has all the elements within its bounds, and no other. So it is before and after each loop
+-- that the run reaches, since these stores are among them.
 pub record StoresFit (symbols : List Symbol) (source : Source) (turns : ℕ) (given : List ℕ) (visits : List Visit) : Type 0 where
   pub each : All (Fits symbols) (stores_of judging symbols source turns given)
-  pub around : All (FitsAround symbols) visits
+  pub among : All (IsAmong (stores_of judging symbols source turns given)) visits
