@@ -2,6 +2,7 @@ pub mod Beginnings
 mod CallRows
 mod ExpressionRows
 pub mod Extents
+pub mod Fitting
 mod FlowRows
 pub mod IndexLists
 mod InnerRows
@@ -19,6 +20,8 @@ pub mod Reporting
 mod Rows
 mod StatementRows
 pub mod Stepping
+mod StoreRows
+pub mod Stores
 pub mod Subscripts
 pub mod Telling
 mod VisitRows

@@ -126,7 +126,7 @@ one-loop scope head close body e =
     let inner = no-inner (with_index scope small.ranging.name) body small.block in
     ap (λ s. (cond (is_concurrent s) 1 0) + loops_in_all body) small.is ∙ omega (arith, inner)
 
-loop-is : (scope : Scope) (call : Callee) (place : ℕ) (head close : Line) (body : Items) → is_small_loop scope head.says body ≡ true → exec scope call place (loop head body close) ≡ concurrent_do place
+pub loop-is : (scope : Scope) (call : Callee) (place : ℕ) (head close : Line) (body : Items) → is_small_loop scope head.says body ≡ true → exec scope call place (loop head body close) ≡ concurrent_do place
 loop-is scope call place head close body e =
     let small = small-loop scope head.says body e in
     ap (λ s. loop_of scope call place (record { line = head.line; says = s }) (exec_all scope call place body)) small.is

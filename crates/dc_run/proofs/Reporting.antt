@@ -31,6 +31,7 @@ use Rattle.dc_run.specs.Playing.{Visit, bounds_in, Outcome, Standing, Looping, p
 use Rattle.dc_run.specs.ReportLine.{Ending, done, bad, stopped, outside_names}
 use Rattle.dc_run.specs.ReportLine as lines
 use Rattle.dc_run.specs.Visits.{loop_at, IsJudged, HoldsAt, in_header, in_orders, WentOn, EndsOutsideLoops, EndsBy}
+use Rattle.dc_run.proofs.Stores.{stores-fit}
 
 abbrev visit_by : ℕ → Slots → ℕ → Store → Visited → Visit
 visit_by number slots turns store found = record { loop = number; inside = slots; turns = turns; opening = store; verdict = found.verdict; after = found.store }
@@ -170,7 +171,7 @@ run-reports symbols source turns given small =
     let judged = good-play looping names (IsJudged symbols source turns) (λ number slots left store. record { said = refl; left = refl }) at (main_computation symbols source turns) in
     let says = good-play looping names (Holds symbols source turns)
     (λ number slots left store. said-at (nested_loop judging (program_forms symbols source turns) greatest_depth number slots) number slots left store (loop-says symbols source small turns number slots left store)) at (main_computation symbols source turns) in
-    record { visits = (run judging symbols source turns given).visits; is = refl; ends = judged.ends; judged = judged.each; orders = says.each }
+    record { visits = (run judging symbols source turns given).visits; is = refl; ends = judged.ends; judged = judged.each; orders = says.each; fits = stores-fit symbols source turns given small }
 
 -- What the code answers, where it is what the run of the definition writes and how that ends.
 pub reports : (symbols : List Symbol) (source : Source) (turns : ℕ) (given : List ℕ) (out : RunOut) → is_small_program symbols source ≡ true → IsRunOf symbols source turns given out

@@ -1,5 +1,5 @@
 -- A loop leaves the elements of a store, and the bounds of its variables.
-use Rattle.std.proofs.Common.{◌≡◌, ℕ, zero, suc, Bool, true, false, cond, List, [], ◌∷◌, ◌++◌, map, drop, Option, Some, None, refl, sym, ap, subst, ◌∙◌}
+use Rattle.std.proofs.Common.{◌≡◌, ℕ, zero, suc, Bool, true, false, cond, List, [], ◌∷◌, ◌++◌, map, drop, Option, Some, None, refl, ap, subst, ◌∙◌}
 use Rattle.std.specs.Prelude.{ℤ, pos, is_none}
 use Rattle.dc_int.specs.Entries.{Entry, Defines, Undefines, store_after_entry}
 use Rattle.dc_int.specs.Store.{Store, value_at, bounds_of}
@@ -13,7 +13,6 @@ use Rattle.dc_code.specs.Passages.{Entering, ended_well, passage_behind, through
 use Rattle.dc_code.specs.Troubles.{Trouble, Slots, Computing, write_line, take_value, take_elements, end_reading, enter_loop, stop}
 use Rattle.dc_code.specs.Verdicts.{Verdict, go_on, at_header, in_iteration, race, verdict, visited_by, judged_by, judgement, trouble_in, seen}
 use Rattle.dc_code.specs.Visits.{Visited, visited}
-use Rattle.dc_code.proofs.Runs.{replayed}
 use Rattle.dc_code.proofs.Stores.{shape-after, shape-then}
 use Rattle.dc_meaning.specs.Visiting.{visit_of, IsVisit}
 use Rattle.dc_run.specs.Running.{loop_in, KeepsShape}

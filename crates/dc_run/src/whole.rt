@@ -21,6 +21,7 @@ use std::alloc::Global;
 ///
 /// What it writes and how it ends is what the run of the source reports (`Reports`): each loop that it reaches
 /// ends with the one store that every order of its iterations gives, or the run ends there, with its trouble.
+/// Each store of the run fits the declared variables.
 ///
 /// No program of today spends a turn, reads, or has its loops run by workers.
 pub fn run<G: Gate + Sync>(
