@@ -36,8 +36,7 @@ fn is_small_target(
             [subscript] => {
                 is_vector(entities, index, name) && is_small_subscript(entities, index, subscript)
             }
-            [] => false,
-            [_first, _second, ..] => false,
+            _ => false,
         },
     }
 }
@@ -56,38 +55,7 @@ fn is_small_assignment(
         Stmt::Act(Action::Assign { left, right }) => {
             is_small_target(entities, index, whole_arrays, left) && is_small(entities, index, right)
         }
-        Stmt::Act(
-            Action::Fill { .. }
-            | Action::Call { .. }
-            | Action::Cycle(_)
-            | Action::Exit(_)
-            | Action::Return
-            | Action::Continue
-            | Action::Stop
-            | Action::ErrorStop
-            | Action::Print { .. }
-            | Action::Read { .. },
-        ) => false,
-        Stmt::Program(_)
-        | Stmt::Use { .. }
-        | Stmt::ImplicitNone
-        | Stmt::Declare { .. }
-        | Stmt::Contains
-        | Stmt::Procedure { .. }
-        | Stmt::End { .. }
-        | Stmt::IfThen(_)
-        | Stmt::ElseIf(_)
-        | Stmt::Else
-        | Stmt::EndIf
-        | Stmt::IfAction { .. }
-        | Stmt::Select(_)
-        | Stmt::Case(_)
-        | Stmt::CaseDefault
-        | Stmt::EndSelect
-        | Stmt::Do { .. }
-        | Stmt::DoWhile { .. }
-        | Stmt::Concurrent { .. }
-        | Stmt::EndDo(_) => false,
+        _ => false,
     }
 }
 
@@ -101,13 +69,7 @@ fn is_variable(entities: &[Entity], value: &Expr) -> bool
             is_outside_scalar(entities, None, name.as_bytes())
                 || is_vector(entities, None, name.as_bytes())
         }
-        Expr::Number { .. } => false,
-        Expr::Truth(_) => false,
-        Expr::Chars(_) => false,
-        Expr::Refer { .. } => false,
-        Expr::Paren(_) => false,
-        Expr::Unary { .. } => false,
-        Expr::Binary { .. } => false,
+        _ => false,
     }
 }
 
@@ -119,8 +81,7 @@ fn is_one_variable(entities: &[Entity], values: &[Expr]) -> bool
 {
     match values {
         [value] => is_variable(entities, value),
-        [] => false,
-        [_first, _second, ..] => false,
+        _ => false,
     }
 }
 
@@ -134,39 +95,7 @@ fn is_small_output(entities: &[Entity], stmt: &Stmt) -> bool
                 items,
             },
         ) => is_one_variable(entities, items.as_slice()),
-        Stmt::Act(Action::Print { written: true, .. }) => false,
-        Stmt::Act(
-            Action::Assign { .. }
-            | Action::Fill { .. }
-            | Action::Call { .. }
-            | Action::Cycle(_)
-            | Action::Exit(_)
-            | Action::Return
-            | Action::Continue
-            | Action::Stop
-            | Action::ErrorStop
-            | Action::Read { .. },
-        ) => false,
-        Stmt::Program(_)
-        | Stmt::Use { .. }
-        | Stmt::ImplicitNone
-        | Stmt::Declare { .. }
-        | Stmt::Contains
-        | Stmt::Procedure { .. }
-        | Stmt::End { .. }
-        | Stmt::IfThen(_)
-        | Stmt::ElseIf(_)
-        | Stmt::Else
-        | Stmt::EndIf
-        | Stmt::IfAction { .. }
-        | Stmt::Select(_)
-        | Stmt::Case(_)
-        | Stmt::CaseDefault
-        | Stmt::EndSelect
-        | Stmt::Do { .. }
-        | Stmt::DoWhile { .. }
-        | Stmt::Concurrent { .. }
-        | Stmt::EndDo(_) => false,
+        _ => false,
     }
 }
 
@@ -179,21 +108,7 @@ fn is_limit(limit: &Expr) -> bool
             digits,
             suffix: Suffix::Absent,
         } => is_numeral(MOST_DIGITS, digits.as_bytes()),
-        Expr::Number {
-            suffix: Suffix::Digits(_),
-            ..
-        } => false,
-        Expr::Number {
-            suffix: Suffix::Named(_),
-            ..
-        } => false,
-        Expr::Truth(_) => false,
-        Expr::Chars(_) => false,
-        Expr::Name(_) => false,
-        Expr::Refer { .. } => false,
-        Expr::Paren(_) => false,
-        Expr::Unary { .. } => false,
-        Expr::Binary { .. } => false,
+        _ => false,
     }
 }
 
@@ -218,9 +133,7 @@ fn is_small_inner(entities: &[Entity], index: &DcText, node: &Node) -> bool
         Node::Plain(lined) => {
             is_small_assignment(entities, Some(index.as_bytes()), false, &lined.stmt)
         }
-        Node::If { .. } => false,
-        Node::Select { .. } => false,
-        Node::Loop { .. } => false,
+        _ => false,
     }
 }
 
@@ -253,8 +166,7 @@ fn is_plain_loop(entities: &[Entity], indexes: &[Index], locality: &[Local], bod
             }
             [_first, ..] => false,
         },
-        [] => false,
-        [_first, _second, ..] => false,
+        _ => false,
     }
 }
 
@@ -271,29 +183,7 @@ fn is_small_loop(entities: &[Entity], head: &Stmt, body: &Block) -> bool
             mask: None,
             locality,
         } => is_plain_loop(entities, indexes.as_slice(), locality.as_slice(), body),
-        Stmt::Concurrent { label: Some(_), .. } => false,
-        Stmt::Concurrent { spec: Some(_), .. } => false,
-        Stmt::Concurrent { mask: Some(_), .. } => false,
-        Stmt::Program(_)
-        | Stmt::Use { .. }
-        | Stmt::ImplicitNone
-        | Stmt::Declare { .. }
-        | Stmt::Contains
-        | Stmt::Procedure { .. }
-        | Stmt::End { .. }
-        | Stmt::IfThen(_)
-        | Stmt::ElseIf(_)
-        | Stmt::Else
-        | Stmt::EndIf
-        | Stmt::IfAction { .. }
-        | Stmt::Select(_)
-        | Stmt::Case(_)
-        | Stmt::CaseDefault
-        | Stmt::EndSelect
-        | Stmt::Do { .. }
-        | Stmt::DoWhile { .. }
-        | Stmt::EndDo(_)
-        | Stmt::Act(_) => false,
+        _ => false,
     }
 }
 
@@ -307,8 +197,7 @@ fn is_small_item(entities: &[Entity], node: &Node) -> bool
                 || is_small_output(entities, &lined.stmt)
         }
         Node::Loop { head, body, .. } => is_small_loop(entities, &head.stmt, body),
-        Node::If { .. } => false,
-        Node::Select { .. } => false,
+        _ => false,
     }
 }
 

@@ -32,13 +32,7 @@ fn operands_in(value: &Expr) -> u32
             let joined = operands_in(left.get()) + operands_in(right.get());
             joined.min(MOST_OPERANDS + 1)
         }
-        Expr::Number { .. } => 1,
-        Expr::Truth(_) => 1,
-        Expr::Chars(_) => 1,
-        Expr::Name(_) => 1,
-        Expr::Refer { .. } => 1,
-        Expr::Paren(_) => 1,
-        Expr::Unary { .. } => 1,
+        _ => 1,
     }
 }
 
@@ -70,12 +64,7 @@ fn has_short_subscripts(value: &Expr) -> bool
             has_short_subscripts(left.get()) && has_short_subscripts(right.get())
         }
         Expr::Refer { args, .. } => is_short_subscript(args.as_slice()),
-        Expr::Number { .. } => true,
-        Expr::Truth(_) => true,
-        Expr::Chars(_) => true,
-        Expr::Name(_) => true,
-        Expr::Paren(_) => true,
-        Expr::Unary { .. } => true,
+        _ => true,
     }
 }
 
@@ -112,13 +101,7 @@ fn is_short_limit(limit: &Expr) -> bool
 {
     match limit {
         Expr::Number { digits, .. } => digits.len() <= 1 || !begins_with_zero(digits.as_bytes()),
-        Expr::Truth(_) => false,
-        Expr::Chars(_) => false,
-        Expr::Name(_) => false,
-        Expr::Refer { .. } => false,
-        Expr::Paren(_) => false,
-        Expr::Unary { .. } => false,
-        Expr::Binary { .. } => false,
+        _ => false,
     }
 }
 
@@ -143,37 +126,7 @@ fn is_short(stmt: &Stmt) -> bool
             is_short_target(&left.subscripts) && is_short_value(right)
         }
         Stmt::Concurrent { indexes, .. } => is_short_header(indexes.as_slice()),
-        Stmt::Act(
-            Action::Fill { .. }
-            | Action::Call { .. }
-            | Action::Cycle(_)
-            | Action::Exit(_)
-            | Action::Return
-            | Action::Continue
-            | Action::Stop
-            | Action::ErrorStop
-            | Action::Print { .. }
-            | Action::Read { .. },
-        ) => true,
-        Stmt::Program(_)
-        | Stmt::Use { .. }
-        | Stmt::ImplicitNone
-        | Stmt::Declare { .. }
-        | Stmt::Contains
-        | Stmt::Procedure { .. }
-        | Stmt::End { .. }
-        | Stmt::IfThen(_)
-        | Stmt::ElseIf(_)
-        | Stmt::Else
-        | Stmt::EndIf
-        | Stmt::IfAction { .. }
-        | Stmt::Select(_)
-        | Stmt::Case(_)
-        | Stmt::CaseDefault
-        | Stmt::EndSelect
-        | Stmt::Do { .. }
-        | Stmt::DoWhile { .. }
-        | Stmt::EndDo(_) => true,
+        _ => true,
     }
 }
 
@@ -183,9 +136,7 @@ fn is_short_inner(node: &Node) -> bool
 {
     match node {
         Node::Plain(lined) => is_short(&lined.stmt),
-        Node::If { .. } => false,
-        Node::Select { .. } => false,
-        Node::Loop { .. } => false,
+        _ => false,
     }
 }
 
@@ -210,8 +161,7 @@ fn is_short_item(node: &Node) -> bool
         Node::Loop { head, body, .. } => {
             is_short(&head.stmt) && is_short_block(body.nodes.as_slice())
         }
-        Node::If { .. } => false,
-        Node::Select { .. } => false,
+        _ => false,
     }
 }
 
@@ -231,41 +181,7 @@ pub(crate) fn are_short(nodes: &[Node]) -> bool
 fn is_output_line(stmt: &Stmt) -> bool
     ensures { result ≡ is_output_line (statement stmt.now) }
 {
-    match stmt {
-        Stmt::Act(Action::Print { .. }) => true,
-        Stmt::Act(
-            Action::Assign { .. }
-            | Action::Fill { .. }
-            | Action::Call { .. }
-            | Action::Cycle(_)
-            | Action::Exit(_)
-            | Action::Return
-            | Action::Continue
-            | Action::Stop
-            | Action::ErrorStop
-            | Action::Read { .. },
-        ) => false,
-        Stmt::Program(_)
-        | Stmt::Use { .. }
-        | Stmt::ImplicitNone
-        | Stmt::Declare { .. }
-        | Stmt::Contains
-        | Stmt::Procedure { .. }
-        | Stmt::End { .. }
-        | Stmt::IfThen(_)
-        | Stmt::ElseIf(_)
-        | Stmt::Else
-        | Stmt::EndIf
-        | Stmt::IfAction { .. }
-        | Stmt::Select(_)
-        | Stmt::Case(_)
-        | Stmt::CaseDefault
-        | Stmt::EndSelect
-        | Stmt::Do { .. }
-        | Stmt::DoWhile { .. }
-        | Stmt::Concurrent { .. }
-        | Stmt::EndDo(_) => false,
-    }
+    matches!(stmt, Stmt::Act(Action::Print { .. }))
 }
 
 #[tactic(auto, using(dc_tree::proofs::Views::statement_views))]
@@ -274,9 +190,7 @@ fn is_output(node: &Node) -> bool
 {
     match node {
         Node::Plain(lined) => is_output_line(&lined.stmt),
-        Node::If { .. } => false,
-        Node::Select { .. } => false,
-        Node::Loop { .. } => false,
+        _ => false,
     }
 }
 

@@ -20,8 +20,7 @@ fn is_letter(name: &[u8]) -> bool
 {
     match name {
         [letter] => b'a' <= *letter && *letter <= b'z',
-        [] => false,
-        [_first, _second, ..] => false,
+        _ => false,
     }
 }
 
@@ -41,21 +40,7 @@ fn is_size_tree(size: &Expr) -> bool
             digits,
             suffix: Suffix::Absent,
         } => is_size(digits.as_bytes()),
-        Expr::Number {
-            suffix: Suffix::Digits(_),
-            ..
-        } => false,
-        Expr::Number {
-            suffix: Suffix::Named(_),
-            ..
-        } => false,
-        Expr::Truth(_) => false,
-        Expr::Chars(_) => false,
-        Expr::Name(_) => false,
-        Expr::Refer { .. } => false,
-        Expr::Paren(_) => false,
-        Expr::Unary { .. } => false,
-        Expr::Binary { .. } => false,
+        _ => false,
     }
 }
 
@@ -75,8 +60,7 @@ fn has_size(bounds: &Option<DcList<Bound>>) -> bool
         None => true,
         Some(bounds) => match bounds.as_slice() {
             [bound] => is_dimension(bound),
-            [] => false,
-            [_first, _second, ..] => false,
+            _ => false,
         },
     }
 }
@@ -84,11 +68,7 @@ fn has_size(bounds: &Option<DcList<Bound>>) -> bool
 fn is_absent(init: &Init) -> bool
     ensures { result ≡ is_absent (initial init.now) }
 {
-    match init {
-        Init::Absent => true,
-        Init::Scalar(_) => false,
-        Init::Listed(_) => false,
-    }
+    matches!(init, Init::Absent)
 }
 
 fn is_declared(title: &[u8], entity: &Entity) -> bool
@@ -126,42 +106,7 @@ fn is_declaration(title: &[u8], stmt: &Stmt) -> bool
             [] => are_declared(title, entities.as_slice()),
             [_first, ..] => false,
         },
-        Stmt::Declare {
-            spec: TypeSpec::Logical,
-            ..
-        } => false,
-        Stmt::Declare {
-            spec: TypeSpec::Integer { keyed: true, .. },
-            ..
-        } => false,
-        Stmt::Declare {
-            spec: TypeSpec::Integer {
-                selector: Some(_),
-                ..
-            },
-            ..
-        } => false,
-        Stmt::Declare { colons: false, .. } => false,
-        Stmt::Program(_)
-        | Stmt::Use { .. }
-        | Stmt::ImplicitNone
-        | Stmt::Contains
-        | Stmt::Procedure { .. }
-        | Stmt::End { .. }
-        | Stmt::IfThen(_)
-        | Stmt::ElseIf(_)
-        | Stmt::Else
-        | Stmt::EndIf
-        | Stmt::IfAction { .. }
-        | Stmt::Select(_)
-        | Stmt::Case(_)
-        | Stmt::CaseDefault
-        | Stmt::EndSelect
-        | Stmt::Do { .. }
-        | Stmt::DoWhile { .. }
-        | Stmt::Concurrent { .. }
-        | Stmt::EndDo(_)
-        | Stmt::Act(_) => false,
+        _ => false,
     }
 }
 
@@ -180,26 +125,7 @@ fn entities_of(stmt: &Stmt) -> &[Entity]
 {
     match stmt {
         Stmt::Declare { entities, .. } => entities.as_slice(),
-        Stmt::Program(_)
-        | Stmt::Use { .. }
-        | Stmt::ImplicitNone
-        | Stmt::Contains
-        | Stmt::Procedure { .. }
-        | Stmt::End { .. }
-        | Stmt::IfThen(_)
-        | Stmt::ElseIf(_)
-        | Stmt::Else
-        | Stmt::EndIf
-        | Stmt::IfAction { .. }
-        | Stmt::Select(_)
-        | Stmt::Case(_)
-        | Stmt::CaseDefault
-        | Stmt::EndSelect
-        | Stmt::Do { .. }
-        | Stmt::DoWhile { .. }
-        | Stmt::Concurrent { .. }
-        | Stmt::EndDo(_)
-        | Stmt::Act(_) => &[],
+        _ => &[],
     }
 }
 
@@ -209,8 +135,7 @@ pub(crate) fn declared_in(front: &[Lined]) -> &[Entity]
 {
     match front {
         [line] => entities_of(&line.stmt),
-        [] => &[],
-        [_first, _second, ..] => &[],
+        _ => &[],
     }
 }
 
@@ -222,36 +147,7 @@ fn is_close(title: &[u8], stmt: &Stmt) -> bool
             unit: Some(Unit::Program),
             name: Some(name),
         } => name.as_bytes() == title,
-        Stmt::End { unit: None, .. } => false,
-        Stmt::End {
-            unit: Some(Unit::Function),
-            ..
-        } => false,
-        Stmt::End {
-            unit: Some(Unit::Subroutine),
-            ..
-        } => false,
-        Stmt::End { name: None, .. } => false,
-        Stmt::Program(_)
-        | Stmt::Use { .. }
-        | Stmt::ImplicitNone
-        | Stmt::Declare { .. }
-        | Stmt::Contains
-        | Stmt::Procedure { .. }
-        | Stmt::IfThen(_)
-        | Stmt::ElseIf(_)
-        | Stmt::Else
-        | Stmt::EndIf
-        | Stmt::IfAction { .. }
-        | Stmt::Select(_)
-        | Stmt::Case(_)
-        | Stmt::CaseDefault
-        | Stmt::EndSelect
-        | Stmt::Do { .. }
-        | Stmt::DoWhile { .. }
-        | Stmt::Concurrent { .. }
-        | Stmt::EndDo(_)
-        | Stmt::Act(_) => false,
+        _ => false,
     }
 }
 
@@ -269,25 +165,6 @@ pub(crate) fn is_frame(program: &Program) -> bool
 {
     match &program.head.stmt {
         Stmt::Program(title) => is_framed(title.as_bytes(), program),
-        Stmt::Use { .. }
-        | Stmt::ImplicitNone
-        | Stmt::Declare { .. }
-        | Stmt::Contains
-        | Stmt::Procedure { .. }
-        | Stmt::End { .. }
-        | Stmt::IfThen(_)
-        | Stmt::ElseIf(_)
-        | Stmt::Else
-        | Stmt::EndIf
-        | Stmt::IfAction { .. }
-        | Stmt::Select(_)
-        | Stmt::Case(_)
-        | Stmt::CaseDefault
-        | Stmt::EndSelect
-        | Stmt::Do { .. }
-        | Stmt::DoWhile { .. }
-        | Stmt::Concurrent { .. }
-        | Stmt::EndDo(_)
-        | Stmt::Act(_) => false,
+        _ => false,
     }
 }

@@ -34,13 +34,7 @@ fn size_of(size: &Expr) -> u32
 {
     match size {
         Expr::Number { digits, .. } => number_of(digits.as_bytes()),
-        Expr::Truth(_) => 0,
-        Expr::Chars(_) => 0,
-        Expr::Name(_) => 0,
-        Expr::Refer { .. } => 0,
-        Expr::Paren(_) => 0,
-        Expr::Unary { .. } => 0,
-        Expr::Binary { .. } => 0,
+        _ => unreachable!(),
     }
 }
 

@@ -51,25 +51,13 @@ pub(crate) fn is_small_subscript(
             digits,
             suffix: Suffix::Absent,
         } => is_numeral(MOST_DIGITS, digits.as_bytes()),
-        Expr::Number {
-            suffix: Suffix::Digits(_),
-            ..
-        } => false,
-        Expr::Number {
-            suffix: Suffix::Named(_),
-            ..
-        } => false,
         Expr::Name(name) => is_scalar(entities, index, name.as_bytes()),
         Expr::Binary { mark, left, right } => {
             is_sum_or_product(*mark)
                 && (is_small_subscript(entities, index, left.get())
                     && is_small_subscript(entities, index, right.get()))
         }
-        Expr::Truth(_) => false,
-        Expr::Chars(_) => false,
-        Expr::Refer { .. } => false,
-        Expr::Paren(_) => false,
-        Expr::Unary { .. } => false,
+        _ => false,
     }
 }
 
@@ -95,14 +83,6 @@ pub(crate) fn is_small(entities: &[Entity], index: Option<&[u8]>, value: &Expr) 
             digits,
             suffix: Suffix::Absent,
         } => is_numeral(MOST_DIGITS, digits.as_bytes()),
-        Expr::Number {
-            suffix: Suffix::Digits(_),
-            ..
-        } => false,
-        Expr::Number {
-            suffix: Suffix::Named(_),
-            ..
-        } => false,
         Expr::Name(name) => is_scalar(entities, index, name.as_bytes()),
         Expr::Refer { name, args } => {
             is_vector(entities, index, name.as_bytes())
@@ -112,9 +92,6 @@ pub(crate) fn is_small(entities: &[Entity], index: Option<&[u8]>, value: &Expr) 
             is_sum_or_product(*mark)
                 && (is_small(entities, index, left.get()) && is_small(entities, index, right.get()))
         }
-        Expr::Truth(_) => false,
-        Expr::Chars(_) => false,
-        Expr::Paren(_) => false,
-        Expr::Unary { .. } => false,
+        _ => false,
     }
 }

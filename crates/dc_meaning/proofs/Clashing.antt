@@ -18,7 +18,7 @@ use Rattle.dc_meaning.proofs.Marking.{mark_of_runs}
 
 -- ---- two tests of numbers are one
 
-pub same-nat_eq : (m n : ℕ) → nat_eq m n ≡ same m n
+same-nat_eq : (m n : ℕ) → nat_eq m n ≡ same m n
 same-nat_eq zero zero = refl
 same-nat_eq zero (suc n) = search (arith)
 same-nat_eq (suc m) zero = search (arith)

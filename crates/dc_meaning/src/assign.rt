@@ -15,11 +15,11 @@ use crate::cells::Cells;
 use crate::found::Found;
 use crate::names::find;
 use crate::number::kept;
-use crate::places::{element_of, fault};
+use crate::places::element_of;
 use crate::stop::Stop;
 use crate::value::value;
 use crate::walk::Walk;
-use dc_int::{ElementId, FaultKind};
+use dc_int::ElementId;
 use dc_tree::{Expr, Target};
 
 /// Stores a value in all elements of a variable.
@@ -41,8 +41,7 @@ fn assign_whole(cells: &mut Cells, line: u32, found: Found, given: i64) -> Resul
     match found {
         Found::Scalar { variable } => fill(cells, line, variable, 1, value),
         Found::Vector { variable, size } => fill(cells, line, variable, size, value),
-        Found::Index => Err(fault(FaultKind::Undefined, line)),
-        Found::Nothing => Err(fault(FaultKind::Undefined, line)),
+        Found::Index | Found::Nothing => unreachable!(),
     }
 }
 
@@ -83,7 +82,7 @@ pub(crate) fn assign(
         None => assign_whole(cells, line, found, given),
         Some(subscripts) => match subscripts.as_slice() {
             [subscript, ..] => assign_element(walk, cells, line, found, subscript, given),
-            [] => Err(fault(FaultKind::Undefined, line)),
+            [] => unreachable!(),
         },
     }
 }

@@ -11,11 +11,9 @@ ghost use Rattle.dc_meaning.specs.Walking.{Walks};
 
 use crate::assign::assign;
 use crate::cells::Cells;
-use crate::places::fault;
 use crate::stop::Stop;
 use crate::value::value;
 use crate::walk::Walk;
-use dc_int::FaultKind;
 use dc_tree::{Action, Symbols};
 
 /// Carries out an assignment: the value, and then the places.
@@ -30,7 +28,7 @@ pub(crate) fn act(
     ensures { Walks (λ done. actions.on) (own_of walk.now) cells.old (λ call. actions.act (scope_of walk.now) call line (deed action.now)) cells.new result }
 {
     let Action::Assign { left, right } = action else {
-        return Err(fault(FaultKind::Undefined, line));
+        unreachable!()
     };
     let given = value(walk, cells, line, right)?;
     assign(walk, cells, line, left, given)

@@ -10,10 +10,8 @@ ghost use Rattle.dc_meaning.specs.Walking.{Walks};
 
 use crate::assignment::act;
 use crate::cells::Cells;
-use crate::places::fault;
 use crate::stop::Stop;
 use crate::walk::Walk;
-use dc_int::FaultKind;
 use dc_tree::{Node, Stmt};
 
 /// Carries out a statement of a loop's block.
@@ -25,11 +23,9 @@ fn perform_node(walk: &Walk<'_>, cells: &mut Cells, node: &Node) -> Result<(), S
     match node {
         Node::Plain(lined) => match &lined.stmt {
             Stmt::Act(action) => act(walk, cells, lined.line, action),
-            _ => Err(fault(FaultKind::Undefined, lined.line)),
+            _ => unreachable!(),
         },
-        Node::If { close, .. } => Err(fault(FaultKind::Undefined, close.line)),
-        Node::Select { close, .. } => Err(fault(FaultKind::Undefined, close.line)),
-        Node::Loop { close, .. } => Err(fault(FaultKind::Undefined, close.line)),
+        _ => unreachable!(),
     }
 }
 

@@ -1,33 +1,16 @@
 //! Accesses, last states and contributions, from notes.
 
-ghost use Rattle.std.specs.Prelude.{◌≡◌, ◌++◌, map, Some, None, IfOk, OnOk};
+ghost use Rattle.std.specs.Prelude.{◌≡◌, ◌++◌, map, None, IfOk, OnOk};
 ghost use Rattle.std.specs.List.{list_any};
 ghost use Rattle.dc_int.specs.Entries as entries;
 ghost use Rattle.dc_int.specs.Entries.{accesses_of, contributions_of, touched_of, state_after};
 ghost use Rattle.dc_int.specs.Store as stores;
 ghost use Rattle.dc_meaning.specs.Views.{entry_of, more_seen, states_in, variable_of};
 
-use crate::note::{Note, Variable};
-use dc_int::{Access, Action, Contribution, ElementId, Touch};
+use crate::note::{Note, Variable, same_element};
+use dc_int::{Access, Contribution, ElementId, Touch};
 use dc_text::{DcList, NoMemory};
 use std::alloc::Global;
-
-fn access_of(note: Note) -> Access
-    ensures { entries.access_of (entry_of note) ≡ Some result }
-{
-    match note {
-        Note::Read { element, line } => Access {
-            action: Action::Reads,
-            element,
-            line,
-        },
-        Note::Defined { element, line, .. } => Access {
-            action: Action::Defines,
-            element,
-            line,
-        },
-    }
-}
 
 /// The accesses that were noted, in their order.
 pub(crate) fn accesses(alloc: Global, notes: &[Note]) -> Result<DcList<Access>, NoMemory>
@@ -35,7 +18,7 @@ pub(crate) fn accesses(alloc: Global, notes: &[Note]) -> Result<DcList<Access>, 
 {
     let mut accesses = DcList::new(alloc);
     for note in notes {
-        accesses.push(access_of(*note))?;
+        accesses.push(note.access())?;
     }
     Ok(accesses)
 }
@@ -47,17 +30,11 @@ pub(crate) fn contributions(alloc: Global, _notes: &[Note]) -> DcList<Contributi
     DcList::new(alloc)
 }
 
-fn is_same(first: ElementId, second: ElementId) -> bool
-    ensures { result ≡ stores.same_element first second }
-{
-    first.variable == second.variable && first.position == second.position
-}
-
 fn is_among(elements: &[ElementId], element: ElementId) -> bool
     ensures { result ≡ list_any (stores.same_element element) elements.now }
 {
     for other in elements {
-        if is_same(element, *other) {
+        if same_element(element, *other) {
             return true;
         }
     }
@@ -74,7 +51,7 @@ fn state_behind(note: Note, element: ElementId, state: Option<i64>) -> Option<i6
             value,
             ..
         } => {
-            if is_same(element, other) {
+            if same_element(element, other) {
                 Some(value)
             } else {
                 state

@@ -47,7 +47,7 @@ pub(crate) fn perform_iteration(
     ensures { (number : ℕ) → Walks (λ done. actions.on) ((Some value ∷ []) ∷ []) cells.old (λ call. exec_all (with_index (main_scope symbols.now) (index_name (statement head.now))) call number (items body.now)) cells.new result }
 {
     let Stmt::Concurrent { indexes, .. } = head else {
-        return Ok(());
+        unreachable!()
     };
     match indexes.as_slice() {
         [index, ..] => {
@@ -58,6 +58,6 @@ pub(crate) fn perform_iteration(
             };
             perform_all(&walk, cells, body.nodes.as_slice())
         }
-        [] => Ok(()),
+        [] => unreachable!(),
     }
 }

@@ -1,8 +1,7 @@
 //! Two iterations that were run in succession, and what of the second breaks with the first.
 
-ghost use Rattle.std.specs.Prelude.{◌≡◌, option_map, find, Some};
-ghost use Rattle.dc_int.specs.Store.{same, same_element};
-ghost use Rattle.dc_int.specs.Entries.{touches, exposes, is_read_of, is_touch_of, access_of};
+ghost use Rattle.std.specs.Prelude.{◌≡◌, option_map, find};
+ghost use Rattle.dc_int.specs.Entries.{touches, exposes};
 ghost use Rattle.dc_code.specs.Verdicts.{party};
 ghost use Rattle.dc_code.specs.Breaks.{entry_breaks, first_break, first_read, first_touch, named_beside};
 ghost use Rattle.dc_meaning.specs.Plainly.{plain, entries_of, race_by};
@@ -10,43 +9,13 @@ ghost use Rattle.dc_meaning.specs.Views.{entry_of};
 
 use crate::note::Note;
 use dc_code::{Party, Race};
-use dc_int::{Access, Action, ElementId};
-
-fn same(m: u32, n: u32) -> bool
-    ensures { result ≡ same m n }
-{
-    m == n
-}
-
-fn same_element(x: ElementId, y: ElementId) -> bool
-    ensures { result ≡ same_element x y }
-{
-    same(x.variable, y.variable) && same(x.position, y.position)
-}
-
-fn is_touch_of(element: ElementId, note: Note) -> bool
-    ensures { result ≡ is_touch_of element (entry_of note) }
-{
-    match note {
-        Note::Read { .. } => false,
-        Note::Defined { element: other, .. } => same_element(element, other),
-    }
-}
-
-fn is_read_of(element: ElementId, note: Note) -> bool
-    ensures { result ≡ is_read_of element (entry_of note) }
-{
-    match note {
-        Note::Read { element: other, .. } => same_element(element, other),
-        Note::Defined { .. } => false,
-    }
-}
+use dc_int::{Access, ElementId};
 
 fn touches(element: ElementId, notes: &[Note]) -> bool
     ensures { result ≡ touches element (entries_of notes.now) }
 {
     for note in notes {
-        if is_touch_of(element, *note) {
+        if note.is_touch_of(element) {
             return true;
         }
     }
@@ -58,10 +27,10 @@ fn exposes(element: ElementId, notes: &[Note]) -> bool
     ensures { result ≡ exposes element (entries_of notes.now) }
 {
     for note in notes {
-        if is_read_of(element, *note) {
+        if note.is_read_of(element) {
             return true;
         }
-        if is_touch_of(element, *note) {
+        if note.is_touch_of(element) {
             return false;
         }
     }
@@ -95,7 +64,7 @@ fn first_touch(element: ElementId, notes: &[Note]) -> Option<Note>
     ensures { option_map entry_of result ≡ first_touch element (entries_of notes.now) }
 {
     for note in notes {
-        if is_touch_of(element, *note) {
+        if note.is_touch_of(element) {
             return Some(*note);
         }
     }
@@ -106,7 +75,7 @@ fn first_read(element: ElementId, notes: &[Note]) -> Option<Note>
     ensures { option_map entry_of result ≡ first_read element (entries_of notes.now) }
 {
     for note in notes {
-        if is_read_of(element, *note) {
+        if note.is_read_of(element) {
             return Some(*note);
         }
     }
@@ -120,23 +89,6 @@ fn named_beside(first: &[Note], note: Note) -> Option<Note>
     match note {
         Note::Read { element, .. } => first_touch(element, first),
         Note::Defined { element, .. } => first_read(element, first),
-    }
-}
-
-fn access_of(note: Note) -> Access
-    ensures { Some result ≡ access_of (entry_of note) }
-{
-    match note {
-        Note::Read { element, line } => Access {
-            action: Action::Reads,
-            element,
-            line,
-        },
-        Note::Defined { element, line, .. } => Access {
-            action: Action::Defines,
-            element,
-            line,
-        },
     }
 }
 
@@ -156,10 +108,10 @@ pub(crate) fn race_by(i: u32, j: u32, first: &[Note], second: &[Note]) -> Option
 {
     let breaking = first_break(first, second)?;
     let beside = named_beside(first, breaking)?;
-    let access = access_of(breaking);
+    let access = breaking.access();
     Some(Race {
         element: access.element,
-        first: party(i, access_of(beside)),
+        first: party(i, beside.access()),
         second: party(j, access),
     })
 }

@@ -14,11 +14,11 @@ ghost use Rattle.dc_meaning.specs.Walking.{Walks};
 use crate::cells::Cells;
 use crate::found::Found;
 use crate::names::find;
-use crate::places::{fault, refer_to};
+use crate::places::refer_to;
 use crate::spot::Spot;
 use crate::stop::Stop;
 use crate::walk::Walk;
-use dc_int::{ElementId, FaultKind};
+use dc_int::ElementId;
 use dc_text::DcList;
 use dc_tree::Symbols;
 use std::alloc::Global;
@@ -62,7 +62,6 @@ pub fn values_of(
     match find(&walk, name) {
         Found::Scalar { variable } => elements(alloc, &walk, cells, line, variable, 1),
         Found::Vector { variable, size } => elements(alloc, &walk, cells, line, variable, size),
-        Found::Index => Err(fault(FaultKind::Undefined, line)),
-        Found::Nothing => Err(fault(FaultKind::Undefined, line)),
+        Found::Index | Found::Nothing => unreachable!(),
     }
 }

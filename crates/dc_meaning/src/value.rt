@@ -12,10 +12,9 @@ ghost use Rattle.dc_meaning.specs.Walking.{Walks};
 use crate::cells::Cells;
 use crate::names::find;
 use crate::number::{number_of, operate};
-use crate::places::{fault, refer_to, spot};
+use crate::places::{refer_to, spot};
 use crate::stop::Stop;
 use crate::walk::Walk;
-use dc_int::FaultKind;
 use dc_tree::Expr;
 
 /// The value of a variable, or of its element with a subscript.
@@ -47,16 +46,13 @@ pub(crate) fn value(walk: &Walk<'_>, cells: &mut Cells, line: u32, expr: &Expr) 
                 let subscript = value(walk, cells, line, &arg.value)?;
                 element(walk, cells, line, name.as_bytes(), Some(subscript))
             }
-            [] => Err(fault(FaultKind::Undefined, line)),
+            [] => unreachable!(),
         },
         Expr::Binary { mark, left, right } => {
             let left = value(walk, cells, line, left.get())?;
             let right = value(walk, cells, line, right.get())?;
             Ok(operate(*mark, left, right))
         }
-        Expr::Truth(_) => Err(fault(FaultKind::Undefined, line)),
-        Expr::Chars(_) => Err(fault(FaultKind::Undefined, line)),
-        Expr::Paren(_) => Err(fault(FaultKind::Undefined, line)),
-        Expr::Unary { .. } => Err(fault(FaultKind::Undefined, line)),
+        _ => unreachable!(),
     }
 }

@@ -27,7 +27,7 @@ fn limit(expr: &Expr) -> u32
 {
     match expr {
         Expr::Number { digits, .. } => number_of(digits.as_bytes()),
-        _ => 0,
+        _ => unreachable!(),
     }
 }
 
@@ -55,11 +55,11 @@ fn active_values(
     ensures { IfOk result (λ made. (made ≡ index_values (statement head.now)) × (length made ≤ 4194304)) }
 {
     let Stmt::Concurrent { indexes, .. } = head else {
-        return Ok(DcList::new(alloc));
+        unreachable!()
     };
     match indexes.as_slice() {
         [index, ..] => values(alloc, limit(&index.first), limit(&index.last)),
-        [] => Ok(DcList::new(alloc)),
+        [] => unreachable!(),
     }
 }
 

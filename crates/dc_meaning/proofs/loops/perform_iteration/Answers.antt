@@ -12,8 +12,8 @@ use Rattle.dc_meaning.proofs.Walking.{walks-as}
 use Rattle.dc_meaning.proofs.Looping.{name-is, block-items, own-as}
 use Rattle.dc_meaning.proofs.loops.perform_iteration.Goals as goal
 
-pub returns-in-len1-up : goal.returns-in-len1-up
-returns-in-len1-up c = λ number.
+pub returns : goal.returns
+returns c = λ number.
     let l = c.in-Concurrent in
     let name = ap (λ h. index_name (statement h)) l.is ∙ name-is l.label l.indexes c.as_slice.result.now l.spec l.mask l.locality c.index-item.result c.as_slice.ensures c.in-len1-up.len_at_least c.index-item.is ∙ sym c.as_bytes-name.ensures in
     let told = to_z-of_z w64 c.args.value (search rules) in

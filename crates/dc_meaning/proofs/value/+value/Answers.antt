@@ -43,10 +43,10 @@ returns-in_ok-subscript-in-len1-up t c =
     refer-walks (scope_of c.args.walk.now) c.args.line c.args.expr.now _ c.in-Refer.name _ c.in-Refer.args _ c.in-Refer.is c.as_bytes-in-len1-up.ensures told c.requires.small found
     c.in_ok-subscript-in-len1-up.ensures c.element-in-len1-up.ensures
 
-pub returns-in-empty : goal.returns-in-empty
-returns-in-empty t c =
+pub unreachable-requires : goal.unreachable-requires
+unreachable-requires t c =
     let none = none-found c.in-Refer.args c.as_slice.result.now c.as_slice.ensures c.in-empty.len_below in
-    absurd (none-small (scope_of c.args.walk.now) c.args.line c.args.expr.now c.in-Refer.name c.in-Refer.args c.in-Refer.is c.requires.small none)
+    none-small (scope_of c.args.walk.now) c.args.line c.args.expr.now c.in-Refer.name c.in-Refer.args c.in-Refer.is c.requires.small none
 
 pub returns-in_ok-right-in-Binary : goal.returns-in_ok-right-in-Binary
 returns-in_ok-right-in-Binary t c =

@@ -1,5 +1,5 @@
 use Rattle.dc_meaning.proofs.Touching.{same-one, same-other}
-use Rattle.dc_meaning.proofs.listing.is_same.Goals as goal
+use Rattle.dc_meaning.proofs.note.same_element.Goals as goal
 
 pub returns-then-first-second : goal.returns-then-first-second
 returns-then-first-second c = same-one c.args.first c.args.second c.if-first-second.true
