@@ -1,18 +1,17 @@
 -- What the steps of the code make of the exact operations.
 use Rattle.std.proofs.Common.{◌≡◌, ℕ, zero, suc, ◌+◌, ◌-◌, ◌*◌, ◌/◌, ◌%◌, ◌^◌, ◌<◌, ◌≤◌, refl, sym, ap, ap₂, ◌∙◌, subst, arith, to_z, of_z}
-use Rattle.std.specs.Prelude.{ℤ, pos, negsuc, neg_ℤ, ◌-ℤ◌, ◌*ℤ◌, ◌<ℤ◌, ◌≤ℤ◌, FitsSigned, unsigned_abs, count_ones, Ok}
+use Rattle.std.specs.Prelude.{ℤ, pos, negsuc, neg_ℤ, ◌-ℤ◌, ◌*ℤ◌, ◌<ℤ◌, ◌≤ℤ◌, FitsSigned, unsigned_abs, bit_and, count_ones, Ok}
 use Rattle.std.specs.Int.{w64, w128, int_wrap, int_rem_euclid, int_div_euclid}
 use Rattle.std.proofs.lemmas.Int.{ints, to_z_pos, to_z-of_z, int_wrap-mul_left, int_wrap-mul_right}
-use Rattle.std.proofs.lemmas.Nat.{one_shl, ones_le_self}
+use Rattle.std.proofs.lemmas.Nat.{one_shl, ones_le_self, and_mask, mod-pow-add, field_of}
 use borrow.Author.Differences.{same_in, sum_is_lem, neg_is, product_is}
 use Rattle.std.proofs.Math.Nat.{div-add-mod', mod-lt, mul-suc, mul_comm, mul-le-mul, pow-suc}
 use lib.IntN.{*ℤ_comm}
-use lib.Pow.{pow_mono}
+use lib.Pow.{pow_mono, pow_pos}
 use lib.Count.{ones_step}
 use Rattle.dc_int.specs.declared.kind.Kind.{Kind}
-use Rattle.dc_int.specs.Kinds.{width, bits_of, InRange, wrapped}
+use Rattle.dc_int.specs.Kinds.{bits_of, wrapped}
 use Rattle.dc_int.specs.Operations.{Outcome, by_divisor, modulo, power, raised, wrapped_outcome, pattern, one_bits, count_of_ones}
-use Rattle.dc_int.proofs.Reductions.{pattern-small}
 use mir.Val.{bits}
 use Rattle.dc_int.proofs.Threes.{product-assoc}
 use Rattle.dc_int.proofs.Wraps.{wrapped-again}
@@ -127,12 +126,19 @@ one_bits-is (suc bits) n small =
     let half : n / 2 < 2 ^ bits = omega arith in
     ap (λ k. n % 2 + k) (one_bits-is bits (n / 2) half) ∙ sym (ones_step n)
 
-bits-width : (kind : Kind) → bits (width kind) ≡ bits_of kind
-bits-width Kind.K1 = refl
-bits-width Kind.K2 = refl
-bits-width Kind.K4 = refl
-bits-width Kind.K8 = refl
+-- only the lowest bits are counted
+one_bits-low : (bits n : ℕ) → one_bits bits n ≡ one_bits bits (n % 2 ^ bits)
+one_bits-low zero n = refl
+one_bits-low (suc bits) n =
+    let more : bits + 1 ≡ suc bits = omega arith in
+    let whole = mod-pow-add n bits 1 in
+    let last : n % 2 ^ (bits + 1) % 2 ≡ n % 2 = omega arith in
+    let low : n % 2 ^ suc bits % 2 ≡ n % 2 = subst (λ (k : ℕ). n % 2 ^ k % 2 ≡ n % 2) more last in
+    let high : n % 2 ^ suc bits / 2 ≡ n / 2 % 2 ^ bits = subst (λ (k : ℕ). n % 2 ^ k / 2 ≡ n / 2 % 2 ^ bits) more (field_of n bits 1) in
+    ap₂ (λ a b. a + b) (sym low) (one_bits-low bits (n / 2) ∙ sym (ap (one_bits bits) high))
 
-pub count-is : (kind : Kind) (a : ℤ) → InRange kind a → count_of_ones kind a ≡ pos (count_ones (pattern kind a))
-count-is kind a within =
-    ap pos (one_bits-is (bits_of kind) (pattern kind a) (subst (λ n. pattern kind a < 2 ^ n) (bits-width kind) (pattern-small kind a within)))
+pub count-is : (kind : Kind) (a : ℤ) → count_of_ones kind a ≡ pos (count_ones (bit_and (pattern kind a) (2 ^ bits_of kind - 1)))
+count-is kind a =
+    let small : pattern kind a % 2 ^ bits_of kind < 2 ^ bits_of kind = mod-lt (pattern kind a) (pow_pos (bits_of kind)) in
+    ap pos (one_bits-low (bits_of kind) (pattern kind a) ∙ one_bits-is (bits_of kind) (pattern kind a % 2 ^ bits_of kind) small
+    ∙ ap count_ones (sym (and_mask (pattern kind a) (bits_of kind))))

@@ -1,7 +1,7 @@
 //! The operations on bits, exact, by the patterns of their operands: the numbers that the bits write without
 //! a sign.
 ghost use Rattle.std.specs.Prelude.{◌≡◌, ◌-◌, ◌^◌, ◌<◌, ◌≤◌, IfOk};
-ghost use Rattle.dc_int.specs.Kinds.{bits_of, InRange};
+ghost use Rattle.dc_int.specs.Kinds.{bits_of};
 ghost use Rattle.dc_int.specs.Operations.{pattern, bits_and, bits_or, bits_xor, bits_not, count_of_ones};
 ghost use Rattle.dc_int.specs.Operations.{places, position, left_by, right_by, right_signed_by, shifted};
 ghost use Rattle.dc_int.specs.Operations.{at_place, bit_set, bit_cleared};
@@ -10,14 +10,12 @@ use crate::kind::Kind;
 use crate::operation::OpFault;
 
 fn pattern(kind: Kind, a: i64) -> u64
-    requires { InRange kind a }
     ensures { result ≡ pattern kind a }
 {
-    match kind {
-        Kind::K1 => u64::from((a as i8).cast_unsigned()),
-        Kind::K2 => u64::from((a as i16).cast_unsigned()),
-        Kind::K4 => u64::from((a as i32).cast_unsigned()),
-        Kind::K8 => a.cast_unsigned(),
+    if a < 0 {
+        all_ones(kind).saturating_sub(a.unsigned_abs() - 1)
+    } else {
+        a.unsigned_abs()
     }
 }
 
@@ -34,41 +32,34 @@ fn all_ones(kind: Kind) -> u64
 }
 
 pub(crate) fn bits_and(kind: Kind, a: i64, b: i64) -> i128
-    requires first { InRange kind a }
-    requires second { InRange kind b }
     ensures { result ≡ bits_and kind a b }
 {
     i128::from(pattern(kind, a) & pattern(kind, b))
 }
 
 pub(crate) fn bits_or(kind: Kind, a: i64, b: i64) -> i128
-    requires first { InRange kind a }
-    requires second { InRange kind b }
     ensures { result ≡ bits_or kind a b }
 {
     i128::from(pattern(kind, a) | pattern(kind, b))
 }
 
 pub(crate) fn bits_xor(kind: Kind, a: i64, b: i64) -> i128
-    requires first { InRange kind a }
-    requires second { InRange kind b }
     ensures { result ≡ bits_xor kind a b }
 {
     i128::from(pattern(kind, a) ^ pattern(kind, b))
 }
 
 pub(crate) fn bits_not(kind: Kind, a: i64) -> i128
-    requires { InRange kind a }
     ensures { result ≡ bits_not kind a }
 {
-    i128::from(all_ones(kind) - pattern(kind, a))
+    i128::from(all_ones(kind).saturating_sub(pattern(kind, a)))
 }
 
 pub(crate) fn count_of_ones(kind: Kind, a: i64) -> i128
-    requires { InRange kind a }
     ensures { result ≡ count_of_ones kind a }
 {
-    i128::from(pattern(kind, a).count_ones())
+    let lowest = pattern(kind, a) & all_ones(kind);
+    i128::from(lowest.count_ones())
 }
 
 fn places(kind: Kind, b: i128) -> Result<u32, OpFault>
@@ -100,8 +91,7 @@ fn left_by(a: i64, places: u32) -> i128
 }
 
 fn right_by(kind: Kind, a: i64, places: u32) -> i128
-    requires within { InRange kind a }
-    requires few { places ≤ 64 }
+    requires { places ≤ 64 }
     ensures { result ≡ right_by kind a places }
 {
     i128::from(pattern(kind, a)) >> places
@@ -109,7 +99,6 @@ fn right_by(kind: Kind, a: i64, places: u32) -> i128
 
 /// To the left, or to the right with zeros by a negative number of places.
 pub(crate) fn shifted(kind: Kind, a: i64, b: i64) -> Result<i128, OpFault>
-    requires { InRange kind a }
     ensures { result ≡ shifted kind a b }
 {
     let by = i128::from(b);
@@ -128,7 +117,6 @@ pub(crate) fn shifted_left(kind: Kind, a: i64, b: i64) -> Result<i128, OpFault>
 
 /// To the right, with zeros.
 pub(crate) fn shifted_right(kind: Kind, a: i64, b: i64) -> Result<i128, OpFault>
-    requires { InRange kind a }
     ensures { result ≡ at_place (right_by kind a) (places kind b) }
 {
     Ok(right_by(kind, a, places(kind, i128::from(b))?))
@@ -143,7 +131,6 @@ pub(crate) fn shifted_right_signed(kind: Kind, a: i64, b: i64) -> Result<i128, O
 }
 
 pub(crate) fn with_bit_set(kind: Kind, a: i64, b: i64) -> Result<i128, OpFault>
-    requires { InRange kind a }
     ensures { result ≡ at_place (bit_set kind a) (position kind b) }
 {
     let bit: u64 = 1 << position(kind, b)?;
@@ -151,7 +138,6 @@ pub(crate) fn with_bit_set(kind: Kind, a: i64, b: i64) -> Result<i128, OpFault>
 }
 
 pub(crate) fn with_bit_cleared(kind: Kind, a: i64, b: i64) -> Result<i128, OpFault>
-    requires { InRange kind a }
     ensures { result ≡ at_place (bit_cleared kind a) (position kind b) }
 {
     let bit: u64 = 1 << position(kind, b)?;

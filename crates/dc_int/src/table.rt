@@ -31,8 +31,6 @@ macro_rules! table {
 /// What an operation at a kind gives of numbers of the kind. The second one is any number where it is a
 /// number of places or the position of a bit; an operation of one operand passes it over.
 pub fn apply(op: Op, kind: Kind, a: i64, b: i64) -> Result<i64, OpFault>
-    requires first { InRange kind a }
-    requires second { takes_place op ≡ false → InRange kind b }
     ensures { result ≡ applied op kind a b }
 {
     table! { op, kind;
