@@ -1,5 +1,6 @@
 //! Texts, lists, stacks, boxes, symbols, and the least of some findings.
 
+use dc_int::Kind;
 use dc_text::{DcBox, DcList, DcText, Stack};
 use dc_tree::{Fail, LeastFinding, Refusal, Role, Symbol, Symbols, is_name};
 use std::test;
@@ -56,7 +57,10 @@ fn symbols_are_found(rt: HostRuntime) -> Result<(), test::Fail> {
     let step = Symbol {
         scope: 1,
         name,
-        role: Role::Function(2),
+        role: Role::Result {
+            logical: false,
+            kind: Kind::K4,
+        },
     };
     symbols.push(rt.alloc(), step)?;
     assert_eq!(rt; symbols.as_slice().len(), 1);
@@ -65,12 +69,17 @@ fn symbols_are_found(rt: HostRuntime) -> Result<(), test::Fail> {
         matches!(
             found,
             Some(Symbol {
-                role: Role::Function(2),
+                role: Role::Result {
+                    logical: false,
+                    kind: Kind::K4,
+                },
                 ..
             })
         )
     );
     assert!(rt; symbols.lookup(0, b"step").is_none());
+    assert!(rt; matches!(symbols.result(1), Some((false, Kind::K4))));
+    assert!(rt; symbols.result(0).is_none());
     Ok(())
 }
 
