@@ -8,13 +8,12 @@ use Rattle.dc_tree.specs.Blocks.{Line, line_of}
 use Rattle.dc_lexer.specs.Answers as lexing
 use Rattle.dc_lines.specs.Answer as splitting
 use Rattle.dc_nest.specs.Answer as nested
-use Rattle.dc_nest.specs.Rules as rules
 use Rattle.dc_phases.specs.declared.tokened.Tokened.{Tokened}
 use Rattle.dc_tree.specs.Findings.{IsFirst, IsUnbroken, finding}
 use Rattle.dc_phases.specs.Lists.{Each, some_breaks, AnswersEach}
 use Rattle.dc_phases.specs.Phases.{Phase, size, lines, tokens, statements, nesting, place_of, HasTokens, AreTokensOf, Says, IsStatement, AreStatementsOf, breaks_statement, breaks_in}
 use Rattle.dc_phases.specs.Answer.{IsFirstRefusal, IsKept, Answers}
-use Rattle.dc_phases.proofs.First.{first-same}
+use Rattle.dc_tree.proofs.Findings.{first-same}
 use Rattle.dc_phases.proofs.Unique.{one-tokens_of, one-list}
 
 -- ---- the phases so far
@@ -159,6 +158,11 @@ behind-statements text list tokened lined few split has is =
 
 -- ---- nesting
 
+-- What is broken in nesting is broken by the statements that were read.
+nested-back : (text : List ℕ) (list : List Line) → Stated text list → (rule line : ℕ) → breaks_in nesting text rule line → nested.broken_in list rule line
+nested-back text list stated rule line broken =
+    subst (λ (l : List Line). nested.broken_in l rule line) (one-list text broken.0 list broken.1 stated.are) broken.2
+
 pub nested-so : (text : List ℕ) (list : List Logical) (tokened : List Tokened) (lined : List Lined) (result : Result Program Fail) → length text ≤ 1048576 → splitting.Answers text (Ok list) → AnswersEach lexing.broken_in HasTokens list (Ok tokened)
     → AnswersEach breaks_statement IsStatement tokened (Ok lined) → nested.Answers lined result → Answers text result
 nested-so text list tokened lined (Err Fail.NoMemory) few split has says is = tt
@@ -167,22 +171,14 @@ nested-so text list tokened lined (Err (Fail.Refused refusal)) few split has say
     record {
       phase = nesting;
       none_before = stated.before;
-      first = record {
-        broken = (map line_of lined, stated.are, (is.rule, is.rule_is, is.breaks));
-        no_earlier = λ rule line less broken.
-            let same : broken.0 ≡ map line_of lined = one-list text broken.0 (map line_of lined) broken.1 stated.are in
-            is.no_earlier broken.2.0 line less (subst (λ (l : List Line). rules.Breaks broken.2.0 l line) same broken.2.2);
-        no_lesser = λ rule less broken.
-            let same : broken.0 ≡ map line_of lined = one-list text broken.0 (map line_of lined) broken.1 stated.are in
-            is.no_lesser broken.2.0 (subst (λ (n : ℕ). n < refusal.rule) broken.2.1 less) (subst (λ (l : List Line). rules.Breaks broken.2.0 l refusal.line) same broken.2.2);
-      };
+      first =
+          first-same (nested.broken_in (map line_of lined)) (breaks_in nesting text) refusal (λ rule line broken. (map line_of lined, stated.are, broken)) (λ rule line broken. nested-back text (map line_of lined) stated rule line broken)
+          is;
     }
 nested-so text list tokened lined (Ok program) few split has says is =
     let stated = behind-statements text list tokened lined few split has says in
     record {
-      kept = kept text stated.before (λ rule line broken.
-          let same : broken.0 ≡ map line_of lined = one-list text broken.0 (map line_of lined) broken.1 stated.are in
-          is.none_broken broken.2.0 line (subst (λ (l : List Line). rules.Breaks broken.2.0 l line) same broken.2.2));
+      kept = kept text stated.before (λ rule line broken. let here = nested-back text (map line_of lined) stated rule line broken in is.none_broken here.0 line here.2);
       list = map line_of lined;
       statements = stated.are;
       nested = is.is_nested;

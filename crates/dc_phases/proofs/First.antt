@@ -3,16 +3,11 @@ use Rattle.std.proofs.Common.{◌≡◌, ℕ, ◌<◌, true, false, ◌&&◌, eq
 use Rattle.std.proofs.lemmas.Bool.{cases_Bool, or_cases, and_parts, ltb-true, eqb-true}
 use Rattle.dc_tree.specs.declared.fail.Refusal.{Refusal}
 use Rattle.dc_tree.specs.Findings.{IsFirst, IsUnbroken, finding, precedes, lesser}
+use Rattle.dc_tree.proofs.Findings.{not_before-line, not_before-rule}
 
 -- No broken rule of these precedes the refusal.
 abbrev pub NoneBefore : (ℕ → ℕ → Type 0) → Refusal → Type 0
 NoneBefore breaks refusal = (rule line : ℕ) → breaks rule line → precedes (finding rule line) refusal ≡ false
-
-before-line : (a b : Refusal) → precedes a b ≡ false → a.line < b.line → ⊥
-before-line a b first less = grind (arith, first, less)
-
-before-rule : (a b : Refusal) → precedes a b ≡ false → a.line ≡ b.line → a.rule < b.rule → ⊥
-before-rule a b first same less = grind (arith, first, same, less)
 
 -- x isn't before b, and b isn't before a
 not_before : (x a b : Refusal) → precedes b a ≡ false → precedes x b ≡ false → precedes x a ≡ false
@@ -24,8 +19,8 @@ not_behind x a b first second = grind (arith, first, second)
 pub first-from : (breaks : ℕ → ℕ → Type 0) (refusal : Refusal) → breaks refusal.rule refusal.line → NoneBefore breaks refusal → IsFirst breaks refusal
 first-from breaks refusal broken none = record {
   broken = broken;
-  no_earlier = λ rule line less other. before-line (finding rule line) refusal (none rule line other) less;
-  no_lesser = λ rule less other. before-rule (finding rule refusal.line) refusal (none rule refusal.line other) refl less;
+  no_earlier = λ rule line less other. not_before-line (finding rule line) refusal (none rule line other) less;
+  no_lesser = λ rule less other. not_before-rule (finding rule refusal.line) refusal (none rule refusal.line other) refl less;
 }
 
 pub first-none : (breaks : ℕ → ℕ → Type 0) (refusal : Refusal) → IsFirst breaks refusal → NoneBefore breaks refusal
@@ -77,13 +72,3 @@ first-lesser one other both a b joins first second =
           (first-from both a (joins.left a.rule a.line first.broken)
           (none-joined one other both a joins (first-none one a first) (λ rule line is. not_before (finding rule line) a b behind (first-none other b second rule line is))))
     ]
-
--- ---- a first refusal by other words
-
--- The same rules are broken on the same lines.
-pub first-same : (one other : ℕ → ℕ → Type 0) (refusal : Refusal) → ((rule line : ℕ) → one rule line → other rule line) → ((rule line : ℕ) → other rule line → one rule line) → IsFirst one refusal → IsFirst other refusal
-first-same one other refusal there back first = record {
-  broken = there refusal.rule refusal.line first.broken;
-  no_earlier = λ rule line less is. first.no_earlier rule line less (back rule line is);
-  no_lesser = λ rule less is. first.no_lesser rule less (back rule refusal.line is);
-}

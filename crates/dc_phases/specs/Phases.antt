@@ -9,9 +9,8 @@ use Rattle.dc_lines.specs.Joined as joined
 use Rattle.dc_lines.specs.Answer as splitting
 use Rattle.dc_lexer.specs.Answers as lexing
 use Rattle.dc_stmt.specs.Answers as statements_of_tokens
-use Rattle.dc_nest.specs.Rules as nesting_rules
+use Rattle.dc_nest.specs.Answer as nested
 use Rattle.dc_phases.specs.declared.tokened.Tokened.{Tokened}
-use Rattle.dc_tree.specs.Findings.{numbered}
 use Rattle.dc_phases.specs.Lists.{Each, some_breaks}
 
 -- A source passes these phases, one after another.
@@ -72,4 +71,4 @@ breaks_in tokens text rule line = some_breaks lexing.broken_in (logical_of text)
 -- K11 and K12, by the tokens of each statement.
 breaks_in statements text rule line = (list : List Tokened) × AreTokensOf text list × some_breaks breaks_statement list rule line
 -- K13 to K18, by the list of the statements.
-breaks_in nesting text rule line = (list : List Line) × AreStatementsOf text list × numbered nesting_rules.number_of (λ broken. nesting_rules.Breaks broken list) rule line
+breaks_in nesting text rule line = (list : List Line) × AreStatementsOf text list × nested.broken_in list rule line
