@@ -52,7 +52,8 @@ pub(crate) fn element_of(found: Found, subscript: i64, line: u32) -> Result<Elem
     }
 }
 
-/// The place of a variable without a subscript.
+/// The place of a variable without a subscript. A name that stands for nothing, which no accepted program
+/// has, is `Undefined`, as the definition says.
 fn whole_spot(found: Found, line: u32) -> Result<Spot, Stop>
     ensures { (own : Slots) (view : View) → Walks place_of_spot own view (λ call. element_at line (entity_of found) []) view result }
 {

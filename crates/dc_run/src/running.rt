@@ -136,7 +136,7 @@ fn perform(
     ensures loops { (standing.new).loops ≡ (standing.old).loops }
 {
     let Stmt::Act(action) = &lined.stmt else {
-        return Ok(None);
+        unreachable!()
     };
     standing.cells.forget_accesses();
     match printed(action) {
@@ -198,8 +198,7 @@ fn step(
     match node {
         Node::Plain(lined) => perform(alloc, symbols, lined, standing),
         Node::Loop { head, body, .. } => run_loop(alloc, symbols, &head.stmt, body, standing),
-        Node::If { .. } => Ok(None),
-        Node::Select { .. } => Ok(None),
+        Node::If { .. } | Node::Select { .. } => unreachable!(),
     }
 }
 

@@ -3,7 +3,7 @@
 
 mod command;
 mod report;
-mod statuses;
+pub mod statuses;
 mod sure;
 mod top;
 mod writing;

@@ -4,15 +4,13 @@ ghost use Rattle.std.specs.Prelude.{◌≡◌, IfOk};
 ghost use Rattle.dc_tree.specs.Blocks.{source_of};
 ghost use Rattle.docon.specs.Report.{only_log, refusal_words, IsRunReport, IsSourceReport};
 
-use crate::statuses::status_of;
+use crate::statuses::{REFUSED, status_of};
 use dc_front::{Accepted, accept};
 use dc_outer::Gate;
 use dc_run::{report_line, run};
 use dc_text::{DcText, NoMemory};
 use dc_tree::{Fail, Refusal};
 use std::alloc::Global;
-
-const REFUSED: u8 = 1;
 
 /// The turns of the main program, of each mask and of each iteration.
 const TURNS: u64 = 1_000_000;
@@ -41,7 +39,8 @@ pub(crate) fn only_log(alloc: Global, words: &[u8], status: u8) -> Result<Report
 }
 
 fn refusal(alloc: Global, refusal: Refusal) -> Result<Report, NoMemory>
-    ensures { IfOk result (λ report. report ≡ only_log (refusal_words refusal.line refusal.rule) 1) }
+    ensures { IfOk result (λ report. report
+        ≡ only_log (refusal_words refusal.line refusal.rule) REFUSED) }
 {
     let mut words = DcText::from_bytes(alloc, b"refused: line ")?;
     words.put_number(i64::from(refusal.line))?;

@@ -1,4 +1,4 @@
-//! The statuses of a run, by how it ends.
+//! The statuses of the top call, and which of them a run has, by how it ends.
 
 ghost use Rattle.std.specs.Prelude.{◌≡◌, List};
 ghost use Rattle.dc_code.specs.Verdicts.{trouble_in, seen};
@@ -10,13 +10,32 @@ use dc_code::Verdict;
 use dc_int::Why;
 use dc_run::Ending;
 
-const DONE: u8 = 0;
+/// The program ran to its end.
+pub const DONE: u8 = 0;
 
-const RACE: u8 = 2;
+/// The source is refused: the log names the line and the rule.
+pub const REFUSED: u8 = 1;
 
-const FAULT: u8 = 3;
+/// Two iterations of a loop break its restriction: the log names both, and an element.
+pub const RACE: u8 = 2;
 
-const SPENT: u8 = 4;
+/// A statement met a fault, and the run ended there.
+pub const FAULT: u8 = 3;
+
+/// A limit of turns is spent.
+pub const SPENT: u8 = 4;
+
+/// The words are no command.
+pub const WORDS: u8 = 5;
+
+/// The device of the source's file failed.
+pub const READ_FAULT: u8 = 6;
+
+/// A write to standard output or to standard error failed: what stands there is a proper prefix.
+pub const WRITE_FAULT: u8 = 7;
+
+/// Memory was wanting, and nothing is written.
+pub const NO_MEMORY: u8 = 8;
 
 fn status_of_why(why: Why) -> u8
     ensures { result ≡ status_of_why why }

@@ -1,6 +1,7 @@
 //! `run_sure`: the top call over an outside that doesn't fail.
 
 ghost use Rattle.std.specs.Prelude.{◌≡◌};
+ghost use Rattle.docon.specs.declared.statuses.TheConstants.{READ_FAULT};
 ghost use Rattle.docon.specs.Answers.{Answers, KeepsFiles};
 ghost use Rattle.docon.specs.Report.{reading};
 ghost use Rattle.docon.specs.Sure.{sure_change, sure_told, no_faults, HasSureRoom, WritesSurely};
@@ -25,7 +26,7 @@ pub fn run_sure(
         Answers asked (sure_change out.old out.new) (sure_change log.old log.new) result }
     ensures unchanged { KeepsFiles words.now sure_told no_faults files.old files.new
         × (input.new ≡ input.old) }
-    ensures reads { ¬ (result ≡ 6) }
+    ensures reads { ¬ (result ≡ READ_FAULT) }
     ensures whole { HasSureRoom words.now files.old out.old log.old
         → WritesSurely words.now files.old (sure_change out.old out.new)
         (sure_change log.old log.new) result }

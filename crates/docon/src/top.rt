@@ -7,6 +7,7 @@ ghost use Rattle.docon.specs.Writing.{change};
 
 use crate::command::file_of;
 use crate::report::{Report, only_log, source_report};
+use crate::statuses::{NO_MEMORY, READ_FAULT, WORDS};
 use crate::writing::write_report;
 use dc_outer::{FileFault, Files, Gate, Sink, Source};
 use dc_text::{DcText, NoMemory};
@@ -14,12 +15,6 @@ use std::alloc::Global;
 
 /// The greatest number of bytes of a source.
 const MOST_SOURCE: usize = 1_048_576;
-
-const WORDS: u8 = 5;
-
-const READ_FAULT: u8 = 6;
-
-const NO_MEMORY: u8 = 8;
 
 fn report<F: Files, G: Gate + Sync>(
     alloc: Global,

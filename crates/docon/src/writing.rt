@@ -5,6 +5,7 @@ ghost use Rattle.docon.specs.Room.{Fits, WritesInRoom};
 ghost use Rattle.docon.specs.Writing.{change, WritesAll, IsWritten};
 
 use crate::report::Report;
+use crate::statuses::WRITE_FAULT;
 use dc_outer::Sink;
 
 fn from(bytes: &[u8], at: usize) -> &[u8]
@@ -28,8 +29,6 @@ pub(crate) fn write_all<W: Sink>(sink: &mut W, bytes: &[u8]) -> bool
     }
     true
 }
-
-const WRITE_FAULT: u8 = 7;
 
 /// Writes the report, out before the log, and answers its status, or that a write failed.
 pub(crate) fn write_report<W: Sink, L: Sink>(report: &Report, out: &mut W, log: &mut L) -> u8

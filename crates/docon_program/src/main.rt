@@ -4,12 +4,11 @@
 use dc_outer::{DiskFiles, OpenGate, StdError, StdInput, StdOutput};
 use dc_text::{DcList, DcText, NoMemory};
 use docon::docon;
+use docon::statuses::NO_MEMORY;
 use std::alloc::Global;
 use std::env;
 use std::io::ErrorKind;
 use std::process::ExitCode;
-
-const NO_MEMORY: u8 = 8;
 
 /// The words after the program's name.
 fn words(alloc: Global, all: env::Args) -> Result<DcList<DcText>, NoMemory> {
