@@ -1,0 +1,6 @@
+//! What operands and arguments are: the rules on types that an expression can break by itself.
+#![tactic(auto)]
+
+mod argument;
+
+pub use argument::Argument;

@@ -1,0 +1,5 @@
+pub mod Forms
+pub mod Functions
+pub mod Knowing
+pub mod Meanings
+pub mod Standing

@@ -1,0 +1,15 @@
+//! What names stand for, and what is known of expressions without evaluating them: their sorts, and
+//! the values of constant expressions.
+#![tactic(auto)]
+
+mod form;
+mod intrinsic;
+mod known;
+mod meaning;
+mod standing;
+
+pub use form::Form;
+pub use intrinsic::Intrinsic;
+pub use known::Known;
+pub use meaning::Meaning;
+pub use standing::{IndexName, Standing};
