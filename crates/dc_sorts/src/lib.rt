@@ -10,6 +10,6 @@ mod standing;
 
 pub use form::Form;
 pub use intrinsic::Intrinsic;
-pub use known::Known;
+pub use known::{Known, known_joined, known_led, known_truth};
 pub use meaning::Meaning;
 pub use standing::{IndexName, Standing};
