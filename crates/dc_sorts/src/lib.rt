@@ -9,7 +9,7 @@ mod meaning;
 mod standing;
 
 pub use form::Form;
-pub use intrinsic::Intrinsic;
+pub use intrinsic::{Intrinsic, intrinsic_named};
 pub use known::{Known, known_joined, known_led, known_truth};
 pub use meaning::Meaning;
 pub use standing::{IndexName, Standing};

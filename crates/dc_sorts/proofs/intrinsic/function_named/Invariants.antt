@@ -1,0 +1,11 @@
+-- The first entry of a name is among those that are left.
+use Rattle.std.proofs.Common.{◌≡◌, length, map}
+use Rattle.dc_tree.specs.Intrinsics.{named_in}
+use Rattle.dc_sorts.specs.Functions.{function_of}
+use Rattle.dc_sorts.proofs.intrinsic.function_named.Given as goal
+
+abbrev pub invariant-loop-table : goal.invariant-loop-table
+invariant-loop-table l = named_in (map (λ e. (e.0.now, function_of e.1)) l.table) l.name ≡ named_in (map (λ e. (e.0.now, function_of e.1)) l.initial.table) l.name
+
+abbrev pub decreases-loop-table : goal.decreases-loop-table
+decreases-loop-table l = length l.table
