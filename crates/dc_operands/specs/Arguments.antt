@@ -44,13 +44,16 @@ counts_places Op.Ibset = true
 counts_places Op.Ibclr = true
 counts_places op = false
 
+-- The forms of two operands that an operation takes.
+abbrev pub takes_pair : Op → Form → Form → Bool
+takes_pair op a b = not (is_of_one op) && (is_whole a && (is_whole b && (counts_places op || same_form a b)))
+
 -- The forms of the arguments that a function takes. That the arguments of an inquiry about an array are an array
 -- and a dimension is said elsewhere.
 abbrev pub takes_forms : functions.Intrinsic → List Form → Bool
 takes_forms (functions.operation op) (a ∷ []) = is_of_one op && is_whole a
-takes_forms (functions.operation op) (a ∷ b ∷ []) =
-    not (is_of_one op) && (is_whole a && (is_whole b && (counts_places op || same_form a b)))
-takes_forms (functions.chosen op) (a ∷ b ∷ rest) = is_whole a && list_all (same_form a) (b ∷ rest)
+takes_forms (functions.operation op) (a ∷ b ∷ []) = takes_pair op a b
+takes_forms (functions.chosen op) (a ∷ b ∷ rest) = is_whole a && list_all (same_form a) (a ∷ b ∷ rest)
 takes_forms functions.merge (a ∷ b ∷ mask ∷ []) = same_form a b && is_logical mask
 takes_forms functions.converted (a ∷ []) = is_whole a
 takes_forms functions.converted (a ∷ kind ∷ []) = is_whole a

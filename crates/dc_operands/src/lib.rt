@@ -2,5 +2,10 @@
 #![tactic(auto)]
 
 mod argument;
+mod fitting;
+mod forms;
+mod operating;
+mod taking;
 
 pub use argument::Argument;
+pub use forms::{is_logical, is_whole, same_form};
