@@ -9,7 +9,7 @@ use Rattle.dc_tree.specs.Typing.{sort_of, sorts_of, is_constant, are_constant, c
 use Rattle.dc_sorts.specs.Forms.{sort_of_form, form_of_sort}
 use Rattle.dc_sorts.specs.Knowing.{known_of, known_args, known_sort, known_value, known_constant, known_led, known_joined, known_referred}
 
-form-back : (sort : Sort) → sort_of_form (form_of_sort sort) ≡ sort
+pub form-back : (sort : Sort) → sort_of_form (form_of_sort sort) ≡ sort
 form-back (whole kind) = refl
 form-back logical = refl
 

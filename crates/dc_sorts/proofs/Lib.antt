@@ -1,1 +1,3 @@
+pub mod Capping
+pub mod Entities
 pub mod Knowing

@@ -2,4 +2,5 @@ pub mod Forms
 pub mod Functions
 pub mod Knowing
 pub mod Meanings
+pub mod Naming
 pub mod Standing

@@ -1,5 +1,5 @@
 -- What a declared name means where it is used. After ISO/IEC 1539-1:2023, clause 19.3.1.
-use Rattle.std.specs.Prelude.{ℕ, Bool, true, false, List, length, Option, Some, None, option_map}
+use Rattle.std.specs.Prelude.{ℕ, Bool, true, false, List, length, Option, Some, None, option_map, ℤ}
 use Rattle.dc_tree.specs.declared.stmt.Intent.{Intent}
 use Rattle.dc_tree.specs.declared.symbols.Role as roles
 use Rattle.dc_tree.specs.declared.symbols.Symbol.{Symbol}
@@ -30,6 +30,14 @@ abbrev pub or_symbol : Option Symbol → Option Symbol → Option Symbol
 or_symbol (Some symbol) other = Some symbol
 or_symbol None other = other
 
+abbrev pub or_meaning : Option Meaning → Meaning → Meaning
+or_meaning (Some meaning) other = meaning
+or_meaning None other = other
+
+-- The meaning of a name in one unit alone.
+abbrev pub symbol_meaning : List Symbol → ℕ → Name → Option Meaning
+symbol_meaning symbols unit name = option_map (λ symbol. meaning_of_role symbols symbol.role) (symbol_at symbols unit name)
+
 -- The symbol of a name in a unit: the unit's own, and else that of the main program.
 abbrev pub symbol_seen : List Symbol → ℕ → Name → Option Symbol
 symbol_seen symbols unit name = or_symbol (symbol_at symbols unit name) (symbol_at symbols 0 name)
@@ -47,6 +55,10 @@ form_of_meaning (Meaning.Dummy form intent) = form
 form_of_meaning (Meaning.Constant form value) = form
 form_of_meaning (Meaning.Procedure function number (Some form)) = form
 form_of_meaning other = Form.Logical
+
+abbrev pub constant_of_meaning : Meaning → Option ℤ
+constant_of_meaning (Meaning.Constant form value) = Some value
+constant_of_meaning other = None
 
 -- Whether nothing of that name is declared.
 abbrev pub is_nothing : Meaning → Bool

@@ -32,18 +32,26 @@ standing_of standing = record {
   callees = standing.callees.now;
 }
 
--- The meaning of a name: an index hides what is declared, and an inner one an outer one.
-abbrev pub meaning_in : List IndexName → Meaning → Name → Meaning
-meaning_in [] declared name = declared
-meaning_in (index ∷ rest) declared name = if bytes_eq index.name name then Meaning.Index index.kind else meaning_in rest declared name
+-- The kind of the innermost index of this name.
+abbrev pub index_kind : List IndexName → Name → Option Kind
+index_kind [] name = None
+index_kind (index ∷ rest) name = if bytes_eq index.name name then Some index.kind else index_kind rest name
 
+abbrev pub meaning_by : Option Kind → Meaning → Meaning
+meaning_by (Some kind) declared = Meaning.Index kind
+meaning_by None declared = declared
+
+-- The meaning of a name: an index hides what is declared, and an inner one an outer one.
 abbrev pub meaning : Standing → Name → Meaning
-meaning standing name = meaning_in standing.indexes (declared_meaning standing.symbols standing.unit name) name
+meaning standing name = meaning_by (index_kind standing.indexes name) (declared_meaning standing.symbols standing.unit name)
+
+abbrev pub is_counted : List Name → Name → Bool
+is_counted names name = list_any (λ counted. bytes_eq counted name) names
 
 -- Whether a name may not be defined here. The variable of a counted DO may not be inside of that loop; an index
 -- of that name is another entity, which may not be defined either.
 abbrev pub is_fixed : Standing → Name → Bool
-is_fixed standing name = is_fixed_meaning (meaning standing name) || list_any (λ counted. bytes_eq counted name) standing.counted
+is_fixed standing name = is_fixed_meaning (meaning standing name) || is_counted standing.counted name
 
 -- The scope of the names here, by which expressions have sorts and values.
 abbrev pub unit_scope : List Symbol → ℕ → Scope

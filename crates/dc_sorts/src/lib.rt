@@ -6,10 +6,12 @@ mod form;
 mod intrinsic;
 mod known;
 mod meaning;
+mod naming;
 mod standing;
 
 pub use form::Form;
 pub use intrinsic::{Intrinsic, intrinsic_named};
 pub use known::{Known, known_joined, known_led, known_truth};
 pub use meaning::Meaning;
+pub use naming::{known_name, known_number};
 pub use standing::{IndexName, Standing};
