@@ -1,3 +1,4 @@
 pub mod Capping
 pub mod Entities
 pub mod Knowing
+pub mod References

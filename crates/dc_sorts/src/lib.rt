@@ -2,6 +2,7 @@
 //! the values of constant expressions.
 #![tactic(auto)]
 
+mod called;
 mod form;
 mod intrinsic;
 mod known;

@@ -1,0 +1,334 @@
+//! What is known of references.
+
+ghost use Rattle.std.specs.Prelude.{◌≡◌, map, Option, Some, option_map, option_and_then};
+ghost use Rattle.std.specs.List.{list_all};
+ghost use Rattle.dc_int.specs.Sorts.{fitted};
+ghost use Rattle.dc_tree.specs.Intrinsics.{operation, chosen, merge};
+ghost use Rattle.dc_tree.specs.Literals as literals;
+ghost use Rattle.dc_tree.specs.Operating as operating;
+ghost use Rattle.dc_tree.specs.Typing as typing;
+ghost use Rattle.dc_tree.specs.Typing.{first_of, first_sort, value_of, where_each};
+ghost use Rattle.dc_sorts.specs.Forms.{form_of_sort, sort_of_form};
+ghost use Rattle.dc_sorts.specs.Functions.{function_of};
+ghost use Rattle.dc_sorts.specs.Knowing.{known_constant, known_sort, known_value};
+ghost use Rattle.dc_sorts.specs.References as references;
+ghost use Rattle.dc_sorts.specs.References.{has_value, number_known};
+
+use crate::form::Form;
+use crate::intrinsic::{Intrinsic, intrinsic_named};
+use crate::known::{Known, applied, kind_of};
+use dc_int::{Kind, Op, wrap_to};
+
+fn kind_numbered(number: i64) -> Kind
+    ensures { result ≡ literals.kind_numbered number }
+{
+    match number {
+        1 => Kind::K1,
+        2 => Kind::K2,
+        8 => Kind::K8,
+        _ => Kind::K4,
+    }
+}
+
+fn kind_number(kind: Kind) -> i64
+    ensures { result ≡ literals.kind_number kind }
+{
+    match kind {
+        Kind::K1 => 1,
+        Kind::K2 => 2,
+        Kind::K4 => 4,
+        Kind::K8 => 8,
+    }
+}
+
+fn fitted(form: Form, value: i64) -> i64
+    ensures { result ≡ fitted (sort_of_form form) value }
+{
+    match form {
+        Form::Whole(kind) => wrap_to(kind, i128::from(value)),
+        Form::Logical => value,
+    }
+}
+
+fn is_constant_call(declared: Option<Form>, function: Option<Intrinsic>) -> bool
+    ensures { result ≡ references.is_constant_call declared (option_map function_of function) }
+{
+    match declared {
+        Some(_) => false,
+        None => match function {
+            Some(function) => may_be_constant(function),
+            None => false,
+        },
+    }
+}
+
+fn may_be_constant(function: Intrinsic) -> bool
+    ensures { result ≡ typing.may_be_constant (function_of function) }
+{
+    match function {
+        Intrinsic::Operation(_)
+        | Intrinsic::Chosen(_)
+        | Intrinsic::Merge
+        | Intrinsic::Converted
+        | Intrinsic::Huge
+        | Intrinsic::BitSize
+        | Intrinsic::Kind => true,
+        Intrinsic::Size
+        | Intrinsic::LowerBound
+        | Intrinsic::UpperBound
+        | Intrinsic::Total
+        | Intrinsic::Count
+        | Intrinsic::Any
+        | Intrinsic::All => false,
+    }
+}
+
+fn are_constant(args: &[Known]) -> bool
+    ensures { result ≡ list_all known_constant args.now }
+{
+    for arg in args {
+        if !arg.constant {
+            return false;
+        }
+    }
+    true
+}
+
+fn have_values(args: &[Known]) -> bool
+    ensures { result ≡ list_all has_value args.now }
+{
+    for arg in args {
+        if arg.value.is_none() {
+            return false;
+        }
+    }
+    true
+}
+
+fn number_known(arg: &Known) -> i64
+    ensures { result ≡ number_known arg.now }
+{
+    match arg.value {
+        Some(value) => value,
+        None => 0,
+    }
+}
+
+fn first_form(args: &[Known]) -> Form
+    ensures { result ≡ form_of_sort (first_sort (map known_sort args.now)) }
+{
+    match args {
+        [first, ..] => first.form,
+        [] => Form::Logical,
+    }
+}
+
+fn kind_converted(args: &[Known]) -> Kind
+    ensures { result ≡ typing.kind_converted (map known_value args.now) }
+{
+    match args {
+        [_first, second] => match second.value {
+            Some(number) => kind_numbered(number),
+            None => Kind::K4,
+        },
+        _ => Kind::K4,
+    }
+}
+
+fn form_called(function: Intrinsic, args: &[Known]) -> Form
+    ensures { result ≡ references.form_called (function_of function) args.now }
+{
+    match function {
+        Intrinsic::Operation(Op::Popcnt)
+        | Intrinsic::Kind
+        | Intrinsic::Size
+        | Intrinsic::LowerBound
+        | Intrinsic::UpperBound
+        | Intrinsic::Count => Form::Whole(Kind::K4),
+        Intrinsic::Operation(_)
+        | Intrinsic::Chosen(_)
+        | Intrinsic::Merge
+        | Intrinsic::Huge
+        | Intrinsic::BitSize
+        | Intrinsic::Total => first_form(args),
+        Intrinsic::Converted => Form::Whole(kind_converted(args)),
+        Intrinsic::Any | Intrinsic::All => Form::Logical,
+    }
+}
+
+fn form_referred(declared: Option<Form>, function: Option<Intrinsic>, args: &[Known]) -> Form
+    ensures { result
+        ≡ references.form_referred declared (option_map function_of function) args.now }
+{
+    match declared {
+        Some(form) => form,
+        None => match function {
+            Some(function) => form_called(function, args),
+            None => Form::Logical,
+        },
+    }
+}
+
+/// What a function asks about the form of its first argument.
+fn about_kind(function: Intrinsic, form: Form) -> Option<i64>
+    ensures { result ≡ operating.about_kind (function_of function) (sort_of_form form) }
+{
+    match function {
+        Intrinsic::Huge => Some(kind_of(form).greatest()),
+        Intrinsic::BitSize => Some(i64::from(kind_of(form).bits())),
+        Intrinsic::Kind => Some(kind_number(kind_of(form))),
+        _ => None,
+    }
+}
+
+/// An operation at arguments that have values.
+fn operated(op: Op, form: Form, args: &[Known]) -> Option<i64>
+    ensures { result ≡ value_of
+        (operating.called (operation op) (sort_of_form form) (map number_known args.now)) }
+{
+    match args {
+        [one] => applied(op, form, number_known(one), 0),
+        [left, right] => applied(op, form, number_known(left), number_known(right)),
+        _ => Some(0),
+    }
+}
+
+/// MIN or MAX of a value and those of arguments that have values.
+#[tactic(auto, using(crate::proofs::References::choices))]
+fn chosen_from(op: Op, form: Form, first: i64, rest: &[Known]) -> Option<i64>
+    ensures { result ≡ value_of
+        (operating.chosen_from op (sort_of_form form) first (map number_known rest.now)) }
+{
+    let mut chosen = first;
+    for arg in rest {
+        match applied(op, form, chosen, number_known(arg)) {
+            Some(value) => chosen = value,
+            None => return None,
+        }
+    }
+    Some(chosen)
+}
+
+fn chosen(op: Op, form: Form, args: &[Known]) -> Option<i64>
+    ensures { result ≡ value_of
+        (operating.called (chosen op) (sort_of_form form) (map number_known args.now)) }
+{
+    match args {
+        [first, rest @ ..] => chosen_from(op, form, number_known(first), rest),
+        [] => Some(0),
+    }
+}
+
+fn merged(form: Form, args: &[Known]) -> Option<i64>
+    ensures { result ≡ value_of
+        (operating.called merge (sort_of_form form) (map number_known args.now)) }
+{
+    match args {
+        [first, second, mask] => {
+            if number_known(mask) != 0 {
+                Some(number_known(first))
+            } else {
+                Some(number_known(second))
+            }
+        }
+        _ => Some(0),
+    }
+}
+
+/// A function at arguments that have values.
+fn called(function: Intrinsic, form: Form, args: &[Known]) -> Option<i64>
+    ensures { result ≡ value_of
+        (operating.called (function_of function) (sort_of_form form) (map number_known args.now)) }
+{
+    match function {
+        Intrinsic::Operation(op) => operated(op, form, args),
+        Intrinsic::Chosen(op) => chosen(op, form, args),
+        Intrinsic::Merge => merged(form, args),
+        _ => Some(0),
+    }
+}
+
+#[tactic(auto, using(crate::proofs::References::arguments))]
+fn called_where_each(function: Intrinsic, form: Form, args: &[Known]) -> Option<i64>
+    ensures { result ≡ option_and_then
+        (λ zs. value_of (operating.called (function_of function) (sort_of_form form) zs))
+        (where_each (map known_value args.now)) }
+{
+    if have_values(args) {
+        called(function, form, args)
+    } else {
+        None
+    }
+}
+
+fn first_fitted(form: Form, args: &[Known]) -> Option<i64>
+    ensures { result ≡ option_map (fitted (sort_of_form form)) (first_of (map number_known args.now)) }
+{
+    match args {
+        [first, ..] => Some(fitted(form, number_known(first))),
+        [] => None,
+    }
+}
+
+#[tactic(auto, using(crate::proofs::References::arguments))]
+fn converted(form: Form, args: &[Known]) -> Option<i64>
+    ensures { result ≡ option_map (fitted (sort_of_form form))
+        (option_and_then first_of (where_each (map known_value args.now))) }
+{
+    if have_values(args) {
+        first_fitted(form, args)
+    } else {
+        None
+    }
+}
+
+/// The value of a function whose first argument has a form, and whose result has the form `given`.
+fn constant_called(function: Intrinsic, first: Form, given: Form, args: &[Known]) -> Option<i64>
+    ensures { result ≡ typing.constant_called (function_of function)
+        (sort_of_form first) (sort_of_form given) (map known_value args.now) }
+{
+    match function {
+        Intrinsic::Converted => converted(given, args),
+        _ => match about_kind(function, first) {
+            Some(value) => Some(value),
+            None => called_where_each(function, first, args),
+        },
+    }
+}
+
+#[tactic(auto, using(crate::proofs::References::forms))]
+fn constant_referred(
+    allowed: bool,
+    function: Option<Intrinsic>,
+    given: Form,
+    args: &[Known],
+) -> Option<i64>
+    ensures { result ≡ typing.constant_referred allowed (option_map function_of function)
+        (map known_sort args.now) (sort_of_form given) (map known_value args.now) }
+{
+    match function {
+        Some(function) => {
+            if allowed {
+                constant_called(function, first_form(args), given, args)
+            } else {
+                None
+            }
+        }
+        None => None,
+    }
+}
+
+/// What is known of a name with arguments in brackets. `declared` is the form of what the name stands for,
+/// if something of that name is declared.
+pub(crate) fn referred(declared: Option<Form>, text: &[u8], args: &[Known]) -> Known
+    ensures { result ≡ references.referred declared text.now args.now }
+{
+    let function = intrinsic_named(text);
+    let form = form_referred(declared, function, args);
+    let constant = is_constant_call(declared, function) && are_constant(args);
+    Known {
+        form,
+        constant,
+        value: constant_referred(constant, function, form, args),
+    }
+}
