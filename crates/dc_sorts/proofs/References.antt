@@ -1,5 +1,5 @@
 -- References by the form of what their name stands for, and the values of their arguments.
-use Rattle.std.proofs.Common.{◌≡◌, ℕ, ◌+◌, ◌<◌, length, drop, get_or, Bool, true, false, ◌&&◌, List, [], ◌∷◌, map, Option, Some, None, option_map, option_and_then, is_some, if◌then◌else◌, ℤ, Ok, Err, refl, sym, ap, ◌∙◌}
+use Rattle.std.proofs.Common.{◌≡◌, ℕ, ◌+◌, ◌<◌, length, drop, get_or, Bool, true, false, ◌&&◌, List, [], ◌∷◌, map, Option, Some, None, option_map, option_and_then, is_some, if◌then◌else◌, IsTrue, ℤ, Ok, Err, refl, sym, ap, ◌∙◌}
 use Rattle.std.specs.List.{list_all}
 use Rattle.std.proofs.lemmas.List.{drop_more}
 use Rattle.dc_int.specs.declared.operation.Op.{Op}
@@ -9,13 +9,25 @@ use Rattle.dc_tree.specs.Entities.{Entity, outside, slots, dummy, constant, func
 use Rattle.dc_tree.specs.Intrinsics.{Intrinsic, intrinsic}
 use Rattle.dc_tree.specs.Operating.{chosen_from}
 use Rattle.dc_tree.specs.Statements.{Name}
-use Rattle.dc_tree.specs.Typing.{value_of, where_each, sort_referred, is_constant_function}
+use Rattle.dc_tree.specs.Symbols.{is_sound}
+use Rattle.dc_tree.specs.Typing.{sort_of_entity, value_of, where_each, sort_referred, is_constant_function}
 use Rattle.dc_sorts.specs.declared.form.Form.{Form}
 use Rattle.dc_sorts.specs.declared.known.Known.{Known}
+use Rattle.dc_sorts.specs.declared.meaning.Meaning.{Meaning}
 use Rattle.dc_sorts.specs.Forms.{sort_of_form, form_of_sort}
 use Rattle.dc_sorts.specs.Knowing.{known_sort, known_value, known_referred}
-use Rattle.dc_sorts.specs.References.{form_of_entity, form_referred, is_constant_call, referred, has_value, number_in, number_known}
+use Rattle.dc_sorts.specs.Meanings.{form_of_meaning, is_nothing}
+use Rattle.dc_sorts.specs.References.{form_of_entity, form_referred, is_constant_call, form_declared, referred, has_value, number_in, number_given}
+use Rattle.dc_sorts.specs.Standing.{Standing, meaning, scope_at}
+use Rattle.dc_sorts.proofs.Entities.{Agrees, is_no_entity, meaning-agrees}
 use Rattle.dc_sorts.proofs.Knowing.{form-back}
+
+-- A form is that of its sort.
+pub form-there : (form : Form) → form_of_sort (sort_of_form form) ≡ form
+form-there (Form.Whole kind) = refl
+form-there Form.Logical = refl
+
+pub ruleset forms = (form-back, form-there)
 
 -- ---- from what a name stands for
 
@@ -49,25 +61,55 @@ referred-there scope text args =
     (rw (constant_there (entity scope text) (intrinsic text))
     (rw (form-back (sort_referred (entity scope text) (intrinsic text) (map known_sort args) (map known_value args))) refl))
 
-pub referred-by : (declared : Option Form) (scope : Scope) (text : Name) (args : List Known)
-    → declared ≡ form_of_entity (entity scope text) → referred declared text args ≡ known_referred scope text args
-referred-by declared scope text args is = ap (λ (d : Option Form). referred d text args) is ∙ referred-there scope text args
+entity_form : (its : Entity) → form_of_entity its ≡ (if is_no_entity its then None else Some (form_of_sort (sort_of_entity its)))
+entity_form (outside number sort bounds) = refl
+entity_form (slots group sort bounds) = refl
+entity_form (dummy place sort) = refl
+entity_form (constant sort value) = refl
+entity_form (function procedure sort) = refl
+entity_form (subroutine procedure intents) = refl
+entity_form (reduction number op sort bounds) = refl
+entity_form nothing = refl
+
+meaning_form : (meaning : Meaning) → form_declared meaning ≡ (if is_nothing meaning then None else Some (form_of_meaning meaning))
+meaning_form (Meaning.Index kind) = refl
+meaning_form (Meaning.Variable form rank) = refl
+meaning_form (Meaning.Result form) = refl
+meaning_form (Meaning.Dummy form intent) = refl
+meaning_form (Meaning.Constant form value) = refl
+meaning_form (Meaning.Procedure gives number result) = refl
+meaning_form Meaning.Nothing = refl
+
+declared_there : (its : Entity) (meaning : Meaning) → Agrees its meaning → form_declared meaning ≡ form_of_entity its
+declared_there its meaning agrees =
+    meaning_form meaning ∙ sym (entity_form its
+    ∙ ap (λ (none : Bool). if none then None else Some (form_of_sort (sort_of_entity its))) agrees.is_nothing
+    ∙ ap (λ (sort : Sort). if is_nothing meaning then None else Some (form_of_sort sort)) agrees.sort
+    ∙ ap (λ (form : Form). if is_nothing meaning then None else Some form) (form-there (form_of_meaning meaning)))
+
+-- A reference by what its name means where it stands.
+pub referred-by : (standing : Standing) (text : Name) (args : List Known) → IsTrue (list_all is_sound standing.symbols)
+    → referred (form_declared (meaning standing text)) text args ≡ known_referred (scope_at standing) text args
+referred-by standing text args sound =
+    ap (λ (declared : Option Form). referred declared text args)
+    (declared_there (entity (scope_at standing) text) (meaning standing text) (meaning-agrees standing text sound))
+    ∙ referred-there (scope_at standing) text args
 
 -- ---- the values of arguments
 
 others_there : (rest : List Known) (z : ℤ) (each : Bool)
-    → option_map (λ zs. z ∷ zs) (if each then Some (map number_known rest) else None) ≡ (if each then Some (z ∷ map number_known rest) else None)
+    → option_map (λ zs. z ∷ zs) (if each then Some (map number_given rest) else None) ≡ (if each then Some (z ∷ map number_given rest) else None)
 others_there rest z true = refl
 others_there rest z false = refl
 
-one_there : (value : Option ℤ) (rest : List Known) → where_each (map known_value rest) ≡ (if list_all has_value rest then Some (map number_known rest) else None)
+one_there : (value : Option ℤ) (rest : List Known) → where_each (map known_value rest) ≡ (if list_all has_value rest then Some (map number_given rest) else None)
     → option_and_then (λ z. option_map (λ zs. z ∷ zs) (where_each (map known_value rest))) value
-    ≡ (if is_some value && list_all has_value rest then Some (number_in value ∷ map number_known rest) else None)
+    ≡ (if is_some value && list_all has_value rest then Some (number_in value ∷ map number_given rest) else None)
 one_there None rest before = refl
 one_there (Some z) rest before = ap (λ (zs : Option (List ℤ)). option_map (λ zs. z ∷ zs) zs) before ∙ others_there rest z (list_all has_value rest)
 
 -- The values are there together or not at all.
-pub where_each-known : (args : List Known) → where_each (map known_value args) ≡ (if list_all has_value args then Some (map number_known args) else None)
+pub where_each-known : (args : List Known) → where_each (map known_value args) ≡ (if list_all has_value args then Some (map number_given args) else None)
 where_each-known [] = refl
 where_each-known (known ∷ rest) = one_there known.value rest (where_each-known rest)
 
@@ -94,20 +136,13 @@ pub chosen_from-fault : (op : Op) (sort : Sort) (a b : ℤ) (rest : List ℤ)
 chosen_from-fault op sort a b rest is = outcome_fails (applied op (kind_of sort) a b) (λ z. chosen_from op sort z rest) is
 
 pub chosen_from-next : (op : Op) (sort : Sort) (a number value : ℤ) (args : List Known) (i : ℕ) (d : Known)
-    → i < length args → number ≡ number_known (get_or args i d) → Some value ≡ value_of (applied op (kind_of sort) a number)
-    → value_of (chosen_from op sort a (map number_known (drop i args))) ≡ value_of (chosen_from op sort value (map number_known (drop (i + 1) args)))
+    → i < length args → number ≡ number_given (get_or args i d) → Some value ≡ value_of (applied op (kind_of sort) a number)
+    → value_of (chosen_from op sort a (map number_given (drop i args))) ≡ value_of (chosen_from op sort value (map number_given (drop (i + 1) args)))
 chosen_from-next op sort a number value args i d within is gives =
-    ap (λ (l : List Known). value_of (chosen_from op sort a (map number_known l))) (drop_more args i d within)
-    ∙ ap (λ (z : ℤ). value_of (chosen_from op sort a (z ∷ map number_known (drop (i + 1) args)))) (sym is)
-    ∙ chosen_from-value op sort a number value (map number_known (drop (i + 1) args)) gives
+    ap (λ (l : List Known). value_of (chosen_from op sort a (map number_given l))) (drop_more args i d within)
+    ∙ ap (λ (z : ℤ). value_of (chosen_from op sort a (z ∷ map number_given (drop (i + 1) args)))) (sym is)
+    ∙ chosen_from-value op sort a number value (map number_given (drop (i + 1) args)) gives
 
 pub ruleset choices = (chosen_from-value, chosen_from-fault, drop_more)
 
 pub ruleset arguments = (where_each-known)
-
--- A sort is the form of it, and a form is that of its sort.
-pub form-there : (form : Form) → form_of_sort (sort_of_form form) ≡ form
-form-there (Form.Whole kind) = refl
-form-there Form.Logical = refl
-
-pub ruleset forms = (form-back, form-there)

@@ -8,13 +8,19 @@ use Rattle.dc_tree.specs.Statements.{Name}
 use Rattle.dc_tree.specs.Typing.{sort_of_entity, sort_called, first_sort, may_be_constant, constant_referred}
 use Rattle.dc_sorts.specs.declared.form.Form.{Form}
 use Rattle.dc_sorts.specs.declared.known.Known.{Known}
+use Rattle.dc_sorts.specs.declared.meaning.Meaning.{Meaning}
 use Rattle.dc_sorts.specs.Forms.{sort_of_form, form_of_sort}
 use Rattle.dc_sorts.specs.Knowing.{known_sort, known_value, known_constant}
+use Rattle.dc_sorts.specs.Meanings.{form_of_meaning}
 
--- The form of what a name stands for, where something of that name is declared.
+-- The form of what a name stands for, where something of that name is declared; and by what it means.
 abbrev pub form_of_entity : Entity → Option Form
 form_of_entity nothing = None
 form_of_entity entity = Some (form_of_sort (sort_of_entity entity))
+
+abbrev pub form_declared : Meaning → Option Form
+form_declared Meaning.Nothing = None
+form_declared meaning = Some (form_of_meaning meaning)
 
 -- The form of a function of the language at arguments.
 abbrev pub form_called : Intrinsic → List Known → Form
@@ -46,5 +52,5 @@ abbrev pub number_in : Option ℤ → ℤ
 number_in (Some value) = value
 number_in None = pos 0
 
-abbrev pub number_known : Known → ℤ
-number_known known = number_in known.value
+abbrev pub number_given : Known → ℤ
+number_given known = number_in known.value

@@ -10,25 +10,18 @@ ghost use Rattle.dc_tree.specs.Typing as typing;
 ghost use Rattle.dc_tree.specs.Typing.{first_of, first_sort, value_of, where_each};
 ghost use Rattle.dc_sorts.specs.Forms.{form_of_sort, sort_of_form};
 ghost use Rattle.dc_sorts.specs.Functions.{function_of};
-ghost use Rattle.dc_sorts.specs.Knowing.{known_constant, known_sort, known_value};
+ghost use Rattle.dc_sorts.specs.Knowing.{known_constant, known_referred, known_sort, known_value};
 ghost use Rattle.dc_sorts.specs.References as references;
-ghost use Rattle.dc_sorts.specs.References.{has_value, number_known};
+ghost use Rattle.dc_sorts.specs.References.{has_value, number_given};
+ghost use Rattle.dc_sorts.specs.Standing.{standing_of, scope_at};
 
 use crate::form::Form;
 use crate::intrinsic::{Intrinsic, intrinsic_named};
 use crate::known::{Known, applied, kind_of};
+use crate::meaning::Meaning;
+use crate::naming::{form_of_meaning, kind_numbered};
+use crate::standing::Standing;
 use dc_int::{Kind, Op, wrap_to};
-
-fn kind_numbered(number: i64) -> Kind
-    ensures { result ≡ literals.kind_numbered number }
-{
-    match number {
-        1 => Kind::K1,
-        2 => Kind::K2,
-        8 => Kind::K8,
-        _ => Kind::K4,
-    }
-}
 
 fn kind_number(kind: Kind) -> i64
     ensures { result ≡ literals.kind_number kind }
@@ -105,8 +98,8 @@ fn have_values(args: &[Known]) -> bool
     true
 }
 
-fn number_known(arg: &Known) -> i64
-    ensures { result ≡ number_known arg.now }
+fn number_given(arg: &Known) -> i64
+    ensures { result ≡ number_given arg.now }
 {
     match arg.value {
         Some(value) => value,
@@ -184,11 +177,11 @@ fn about_kind(function: Intrinsic, form: Form) -> Option<i64>
 /// An operation at arguments that have values.
 fn operated(op: Op, form: Form, args: &[Known]) -> Option<i64>
     ensures { result ≡ value_of
-        (operating.called (operation op) (sort_of_form form) (map number_known args.now)) }
+        (operating.called (operation op) (sort_of_form form) (map number_given args.now)) }
 {
     match args {
-        [one] => applied(op, form, number_known(one), 0),
-        [left, right] => applied(op, form, number_known(left), number_known(right)),
+        [one] => applied(op, form, number_given(one), 0),
+        [left, right] => applied(op, form, number_given(left), number_given(right)),
         _ => Some(0),
     }
 }
@@ -197,11 +190,11 @@ fn operated(op: Op, form: Form, args: &[Known]) -> Option<i64>
 #[tactic(auto, using(crate::proofs::References::choices))]
 fn chosen_from(op: Op, form: Form, first: i64, rest: &[Known]) -> Option<i64>
     ensures { result ≡ value_of
-        (operating.chosen_from op (sort_of_form form) first (map number_known rest.now)) }
+        (operating.chosen_from op (sort_of_form form) first (map number_given rest.now)) }
 {
     let mut chosen = first;
     for arg in rest {
-        match applied(op, form, chosen, number_known(arg)) {
+        match applied(op, form, chosen, number_given(arg)) {
             Some(value) => chosen = value,
             None => return None,
         }
@@ -211,24 +204,24 @@ fn chosen_from(op: Op, form: Form, first: i64, rest: &[Known]) -> Option<i64>
 
 fn chosen(op: Op, form: Form, args: &[Known]) -> Option<i64>
     ensures { result ≡ value_of
-        (operating.called (chosen op) (sort_of_form form) (map number_known args.now)) }
+        (operating.called (chosen op) (sort_of_form form) (map number_given args.now)) }
 {
     match args {
-        [first, rest @ ..] => chosen_from(op, form, number_known(first), rest),
+        [first, rest @ ..] => chosen_from(op, form, number_given(first), rest),
         [] => Some(0),
     }
 }
 
 fn merged(form: Form, args: &[Known]) -> Option<i64>
     ensures { result ≡ value_of
-        (operating.called merge (sort_of_form form) (map number_known args.now)) }
+        (operating.called merge (sort_of_form form) (map number_given args.now)) }
 {
     match args {
         [first, second, mask] => {
-            if number_known(mask) != 0 {
-                Some(number_known(first))
+            if number_given(mask) != 0 {
+                Some(number_given(first))
             } else {
-                Some(number_known(second))
+                Some(number_given(second))
             }
         }
         _ => Some(0),
@@ -238,7 +231,7 @@ fn merged(form: Form, args: &[Known]) -> Option<i64>
 /// A function at arguments that have values.
 fn called(function: Intrinsic, form: Form, args: &[Known]) -> Option<i64>
     ensures { result ≡ value_of
-        (operating.called (function_of function) (sort_of_form form) (map number_known args.now)) }
+        (operating.called (function_of function) (sort_of_form form) (map number_given args.now)) }
 {
     match function {
         Intrinsic::Operation(op) => operated(op, form, args),
@@ -262,10 +255,10 @@ fn called_where_each(function: Intrinsic, form: Form, args: &[Known]) -> Option<
 }
 
 fn first_fitted(form: Form, args: &[Known]) -> Option<i64>
-    ensures { result ≡ option_map (fitted (sort_of_form form)) (first_of (map number_known args.now)) }
+    ensures { result ≡ option_map (fitted (sort_of_form form)) (first_of (map number_given args.now)) }
 {
     match args {
-        [first, ..] => Some(fitted(form, number_known(first))),
+        [first, ..] => Some(fitted(form, number_given(first))),
         [] => None,
     }
 }
@@ -318,9 +311,18 @@ fn constant_referred(
     }
 }
 
-/// What is known of a name with arguments in brackets. `declared` is the form of what the name stands for,
-/// if something of that name is declared.
-pub(crate) fn referred(declared: Option<Form>, text: &[u8], args: &[Known]) -> Known
+fn form_declared(meaning: Meaning) -> Option<Form>
+    ensures { result ≡ references.form_declared meaning }
+{
+    match meaning {
+        Meaning::Nothing => None,
+        _ => Some(form_of_meaning(meaning)),
+    }
+}
+
+/// What is known of a reference whose name stands for something of the form `declared`, if something of that
+/// name is declared.
+fn referred(declared: Option<Form>, text: &[u8], args: &[Known]) -> Known
     ensures { result ≡ references.referred declared text.now args.now }
 {
     let function = intrinsic_named(text);
@@ -331,4 +333,11 @@ pub(crate) fn referred(declared: Option<Form>, text: &[u8], args: &[Known]) -> K
         constant,
         value: constant_referred(constant, function, form, args),
     }
+}
+
+/// What is known of a name with arguments in brackets, from what is known of these.
+pub fn known_referred(standing: &Standing, text: &[u8], args: &[Known]) -> Known
+    ensures { result ≡ known_referred (scope_at (standing_of standing.now)) text.now args.now }
+{
+    referred(form_declared(standing.meaning(text)), text, args)
 }

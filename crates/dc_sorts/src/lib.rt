@@ -10,6 +10,7 @@ mod meaning;
 mod naming;
 mod standing;
 
+pub use called::known_referred;
 pub use form::Form;
 pub use intrinsic::{Intrinsic, intrinsic_named};
 pub use known::{Known, known_joined, known_led, known_truth};

@@ -69,7 +69,8 @@ fn constant_named(standing: &Standing, text: &[u8]) -> Option<i64>
     constant_of_meaning(standing.meaning(text))
 }
 
-fn kind_numbered(value: i64) -> Kind
+/// The kind that a number names; 4 of a number that names none.
+pub(crate) fn kind_numbered(value: i64) -> Kind
     ensures { result ≡ literals.kind_numbered value }
 {
     match value {

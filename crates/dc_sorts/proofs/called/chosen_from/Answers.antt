@@ -7,6 +7,6 @@ use Rattle.dc_sorts.proofs.called.chosen_from.Goals as goal
 
 pub loop-arg-preserved : goal.loop-arg-preserved
 loop-arg-preserved c =
-    let number : to_z w64 (of_z w64 c.number_known.result) ≡ c.number_known.result = search (rules, ints) in
+    let number : to_z w64 (of_z w64 c.number_given.result) ≡ c.number_given.result = search (rules, ints) in
     let value : to_z w64 (of_z w64 c.in-Some.value) ≡ c.in-Some.value = omega (arith, ints) in
-    rw value (sym (chosen_from-next c.args.op (sort_of_form c.args.form) _ _ c.in-Some.value c.args.rest.now c.loop-arg.arg-index _ c.loop-arg-test.true (number ∙ c.number_known.ensures) c.in-Some.ensures) ∙ c.loop-arg.invariant)
+    rw value (sym (chosen_from-next c.args.op (sort_of_form c.args.form) _ _ c.in-Some.value c.args.rest.now c.loop-arg.arg-index _ c.loop-arg-test.true (number ∙ c.number_given.ensures) c.in-Some.ensures) ∙ c.loop-arg.invariant)
