@@ -1,4 +1,5 @@
 pub mod Capping
 pub mod Entities
+pub mod Examples
 pub mod Knowing
 pub mod References
