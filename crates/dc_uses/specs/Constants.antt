@@ -19,11 +19,13 @@ is_well_typed standing tree = is_none (least_of (operand_findings standing 0 tre
 abbrev pub constant_with : Form → ℤ → Constant
 constant_with form value = record { form = form; value = value }
 
+-- what is known of an expression, as the value of a constant expression
+abbrev pub constant_known : Known → Option Constant
+constant_known known = if known.constant then option_map (constant_with known.form) known.value else None
+
 -- The value of a well-typed constant expression, where its evaluation meets no fault and no number out of its kind.
 abbrev pub constant_of : Standing → Tree → Option Constant
-constant_of standing tree =
-    let known = known_at standing tree in
-    if is_well_typed standing tree && known.constant then option_map (constant_with known.form) known.value else None
+constant_of standing tree = if is_well_typed standing tree then constant_known (known_at standing tree) else None
 
 abbrev pub whole_value : Constant → Option ℤ
 whole_value constant = by constant.form

@@ -54,6 +54,10 @@ abbrev pub count_of : Args → ℕ
 count_of no_args = 0
 count_of (arg keyed value rest) = suc (count_of rest)
 
+-- a variable of this rank in front of so many
+abbrev pub misfits : ℕ → ℕ → Bool
+misfits rank count = is_scalar rank || not (count == rank)
+
 -- A name in front of so many arguments or subscripts. K20: it isn't declared, and is no function of the language.
 -- K21: it has another rank, or is neither an array nor a function.
 abbrev pub head_findings : Standing → ℕ → Name → ℕ → List Refusal
@@ -61,7 +65,7 @@ head_findings standing line text count = by (meaning standing text)
   where
     by : Meaning → List Refusal
     by Meaning.Nothing = finding_if (not (is_some (intrinsic text))) 20 line
-    by (Meaning.Variable form rank) = finding_if (is_scalar rank || not (count == rank)) 21 line
+    by (Meaning.Variable form rank) = finding_if (misfits rank count) 21 line
     by (Meaning.Procedure true procedure result) = []
     by other = finding 21 line ∷ []
 
@@ -76,13 +80,17 @@ reading_by functions.all = Reading.Array
 reading_by functions.converted = Reading.Converted
 reading_by other = Reading.Value
 
+abbrev pub reading_undeclared : Option functions.Intrinsic → Reading
+reading_undeclared (Some function) = reading_by function
+reading_undeclared None = Reading.Value
+
 -- How the first argument behind a name is read. What is declared hides the functions of the language.
 abbrev pub reading_of : Standing → Name → Reading
-reading_of standing text = by (meaning standing text) (intrinsic text)
+reading_of standing text = by (meaning standing text)
   where
-    by : Meaning → Option functions.Intrinsic → Reading
-    by Meaning.Nothing (Some function) = reading_by function
-    by other function = Reading.Value
+    by : Meaning → Reading
+    by Meaning.Nothing = reading_undeclared (intrinsic text)
+    by other = Reading.Value
 
 abbrev pub rank_of : Standing → Tree → Option ℕ
 rank_of standing (name text) = by (meaning standing text)

@@ -3,7 +3,9 @@
 #![tactic(auto)]
 
 mod constant;
+mod name;
 mod reading;
 
-pub use constant::Constant;
+pub use constant::{Constant, is_kind};
+pub use name::{note_array, note_name, note_undeclared};
 pub use reading::Reading;
