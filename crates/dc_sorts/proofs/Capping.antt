@@ -1,16 +1,12 @@
 -- Numbers by their digits: what is asked of a number is the same where it is capped over every kind.
-use Rattle.std.proofs.Common.{◌≡◌, ◌+◌, ◌*◌, ◌-◌, ◌<◌, ℕ, Bool, true, false, List, [], ◌∷◌, Option, Some, None, ℤ, pos, refl, sym, ap, ◌∙◌, inl, inr, arith}
-use Rattle.std.specs.Prelude.{option_map, is_some, nat_lt, IsTrue, if◌then◌else◌}
+use Rattle.std.proofs.Common.{◌≡◌, ◌+◌, ◌*◌, ◌-◌, ℕ, List, [], ◌∷◌, Option, Some, None, ℤ, pos, refl, sym, ap, ◌∙◌, arith}
 use Rattle.std.proofs.lemmas.List.{drop_more}
 use Rattle.dc_int.specs.declared.kind.Kind.{Kind}
-use Rattle.dc_int.specs.Sorts.{whole}
 use Rattle.dc_tree.specs.declared.token.Suffix.{Suffix}
-use Rattle.dc_tree.specs.Literals.{number_of, number_from, kind_numbered}
+use Rattle.dc_tree.specs.Literals.{number_from, kind_numbered}
 use Rattle.dc_tree.specs.Syntax.{number}
 use Rattle.dc_tree.specs.Typing.{literal_value, constant_of_entity}
 use Rattle.dc_tree.specs.Entities.{Scope, entity}
-use Rattle.dc_sorts.specs.declared.form.Form.{Form}
-use Rattle.dc_sorts.specs.declared.known.Known.{Known}
 use Rattle.dc_sorts.specs.Knowing.{known_of}
 use Rattle.dc_sorts.specs.Naming.{capped, suffix_kind, number_known}
 

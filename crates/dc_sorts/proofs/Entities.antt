@@ -1,14 +1,13 @@
 -- What a name means is what it stands for in the scope of its place: it has that sort and that value, and is declared there or not.
-use Rattle.std.proofs.Common.{◌≡◌, ℕ, zero, suc, Bool, true, false, not, ◌&&◌, cond, List, [], ◌∷◌, ◌++◌, Option, Some, None, ℤ, refl, sym, ap, subst, ◌∙◌, append_assoc, append-nil, arith}
-use Rattle.std.specs.Prelude.{nat_eq, bytes_eq, map, option_map, is_some, IsTrue}
+use Rattle.std.proofs.Common.{◌≡◌, ℕ, zero, suc, Bool, true, false, not, ◌&&◌, cond, List, [], ◌∷◌, ◌++◌, Option, Some, None, refl, sym, ap, subst, ◌∙◌, append-nil, arith}
+use Rattle.std.specs.Prelude.{nat_eq, bytes_eq, map, option_map, IsTrue}
 use Rattle.std.specs.List.{list_all}
 use Rattle.std.proofs.lemmas.Bool.{false≢true, and_parts}
 use Rattle.dc_int.specs.declared.kind.Kind.{Kind}
 use Rattle.dc_int.specs.Sorts.{Sort, sort_with}
-use Rattle.dc_tree.specs.declared.stmt.Intent.{Intent}
 use Rattle.dc_tree.specs.declared.symbols.Role as roles
 use Rattle.dc_tree.specs.declared.symbols.Symbol.{Symbol}
-use Rattle.dc_tree.specs.Entities.{Entity, outside, slots, dummy, constant, nothing, Scope, entity, entity_in, result_in, symbols_in, first_local, procedure_entity, outer_names, inner_names, main_scope, procedure_scope}
+use Rattle.dc_tree.specs.Entities.{Entity, outside, slots, dummy, constant, nothing, entity, entity_in, result_in, symbols_in, first_local, procedure_entity, outer_names, inner_names, main_scope}
 use Rattle.dc_tree.specs.Statements.{Name}
 use Rattle.dc_tree.specs.Symbols.{symbol_at, declared_sort, is_sound}
 use Rattle.dc_tree.specs.Syntax as syntax

@@ -2,7 +2,7 @@
 -- and k = 1, the variables x of kind 2 and abs, and the function twice of kind 8; the procedure 1, twice, has
 -- the dummies a and b, of which it may not define a, and a variable k of its own. In it stand a loop over an
 -- index n and one inside over an index n of kind 8.
-use Rattle.std.proofs.Common.{◌≡◌, Bool, true, false, List, [], ◌∷◌, Option, Some, None, refl}
+use Rattle.std.proofs.Common.{◌≡◌, true, false, List, [], ◌∷◌, Some, None, refl}
 use Rattle.std.specs.Prelude.{ℕ, ℤ, pos, negsuc, codes}
 use Rattle.std.specs.Int.{int_wrap}
 use Rattle.dc_int.specs.declared.kind.Kind.{Kind}
@@ -12,7 +12,7 @@ use Rattle.dc_tree.specs.declared.symbols.Symbol.{Symbol}
 use Rattle.dc_tree.specs.declared.token.Mark.{Mark}
 use Rattle.dc_tree.specs.declared.token.Suffix.{Suffix}
 use Rattle.dc_tree.specs.Statements.{Name}
-use Rattle.dc_tree.specs.Syntax.{Tree, Args, number, truth, name, refer, paren, unary, binary, no_args, arg}
+use Rattle.dc_tree.specs.Syntax.{Tree, number, truth, name, refer, unary, binary, no_args, arg}
 use Rattle.dc_sorts.specs.declared.form.Form.{Form}
 use Rattle.dc_sorts.specs.declared.known.Known.{Known}
 use Rattle.dc_sorts.specs.declared.meaning.Meaning.{Meaning}

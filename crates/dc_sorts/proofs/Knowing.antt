@@ -1,5 +1,5 @@
 -- What is known of an expression, from what is known of its parts.
-use Rattle.std.proofs.Common.{◌≡◌, ℕ, ◌&&◌, List, [], ◌∷◌, map, Option, ℤ, refl, ap, ◌∙◌}
+use Rattle.std.proofs.Common.{◌≡◌, ℕ, ◌&&◌, List, ◌∷◌, map, Option, ℤ, refl, ap, ◌∙◌}
 use Rattle.std.specs.List.{list_all}
 use Rattle.dc_int.specs.Sorts.{Sort, whole, logical}
 use Rattle.dc_tree.specs.declared.token.Mark.{Mark}

@@ -1,10 +1,9 @@
 -- What is known of an expression without evaluating it: its sort, whether it is a constant expression, and its
 -- value where that can be told. After ISO/IEC 1539-1:2023, clauses 10.1.9 and 10.1.12.
-use Rattle.std.specs.Prelude.{ℕ, Bool, true, ◌&&◌, List, [], ◌∷◌, map, Option, Some, None, option_and_then, if◌then◌else◌, ℤ}
+use Rattle.std.specs.Prelude.{Bool, ◌&&◌, List, [], ◌∷◌, map, Option, option_and_then, ℤ}
 use Rattle.std.specs.List.{list_all}
-use Rattle.dc_int.specs.Sorts.{Sort, whole, logical}
+use Rattle.dc_int.specs.Sorts.{Sort}
 use Rattle.dc_tree.specs.declared.token.Mark.{Mark}
-use Rattle.dc_tree.specs.declared.token.Suffix.{Suffix}
 use Rattle.dc_tree.specs.Entities.{Scope, entity}
 use Rattle.dc_tree.specs.Intrinsics.{intrinsic}
 use Rattle.dc_tree.specs.Operating.{joined_by, led_by}

@@ -1,6 +1,6 @@
 -- Where an expression stands: which names can be used there, and which of these may not be defined. After
 -- ISO/IEC 1539-1:2023, clauses 11.1.7.2, 11.1.7.4.3 and 19.4.
-use Rattle.std.specs.Prelude.{ℕ, zero, suc, Bool, ◌||◌, List, [], ◌∷◌, map, bytes_eq, ℤ, Option, Some, None, if◌then◌else◌}
+use Rattle.std.specs.Prelude.{ℕ, zero, suc, Bool, ◌||◌, List, [], ◌∷◌, map, bytes_eq, Option, Some, None, if◌then◌else◌}
 use Rattle.std.specs.List.{list_any}
 use Rattle.dc_int.specs.declared.kind.Kind.{Kind}
 use Rattle.dc_int.specs.Sorts.{whole}

@@ -89,7 +89,11 @@ fn is_arithmetic(mark: Mark) -> bool
 fn form_joined_by(mark: Mark, joined: Form) -> Form
     ensures { result ≡ form_of_sort (if typing.is_arithmetic mark then sort_of_form joined else logical) }
 {
-    if is_arithmetic(mark) { joined } else { Form::Logical }
+    if is_arithmetic(mark) {
+        joined
+    } else {
+        Form::Logical
+    }
 }
 
 fn form_led_by(mark: Mark, form: Form) -> Form

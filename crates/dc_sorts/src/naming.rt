@@ -28,7 +28,8 @@ pub(crate) fn form_of_meaning(meaning: Meaning) -> Form
         | Meaning::Dummy { form, .. }
         | Meaning::Constant { form, .. }
         | Meaning::Procedure {
-            result: Some(form), ..
+            result: Some(form),
+            ..
         } => form,
         Meaning::Procedure { result: None, .. } | Meaning::Nothing => Form::Logical,
     }

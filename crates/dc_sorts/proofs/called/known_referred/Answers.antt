@@ -1,5 +1,5 @@
 -- By the form of what the name means.
-use Rattle.std.proofs.Common.{◌≡◌, Option, ap, ◌∙◌}
+use Rattle.std.proofs.Common.{Option, ap, ◌∙◌}
 use Rattle.dc_sorts.specs.declared.form.Form.{Form}
 use Rattle.dc_sorts.specs.declared.meaning.Meaning.{Meaning}
 use Rattle.dc_sorts.specs.References.{form_declared, referred}

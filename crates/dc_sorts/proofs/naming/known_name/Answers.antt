@@ -1,8 +1,7 @@
-use Rattle.std.proofs.Common.{◌≡◌, sym, ap, ◌∙◌}
-use Rattle.dc_sorts.specs.Meanings.{constant_of_meaning}
+use Rattle.std.proofs.Common.{sym, ap, ◌∙◌}
 use Rattle.dc_sorts.specs.Naming.{name_known}
 use Rattle.dc_sorts.specs.Standing.{standing_of}
-use Rattle.dc_sorts.proofs.Entities.{name-known, meaning-agrees}
+use Rattle.dc_sorts.proofs.Entities.{name-known}
 use Rattle.dc_sorts.proofs.naming.known_name.Goals as goal
 
 pub returns : goal.returns
