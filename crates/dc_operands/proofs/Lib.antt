@@ -1,1 +1,2 @@
 pub mod Dummies
+pub mod Gathering

@@ -1,6 +1,6 @@
 -- The rules that an expression breaks by what its numbers, operands and arguments are. After ISO/IEC 1539-1:2023,
 -- clauses 7.4.3.1, 10.1.5, 15.5.2 and 16.9.
-use Rattle.std.specs.Prelude.{ℕ, zero, suc, Bool, true, false, not, ◌&&◌, ◌||◌, List, [], ◌∷◌, ◌++◌, slice_get, is_none, Option, Some, None, if◌then◌else◌}
+use Rattle.std.specs.Prelude.{ℕ, suc, ◌-◌, Bool, true, false, not, ◌&&◌, ◌||◌, ◌==◌, List, [], ◌∷◌, ◌++◌, map, slice_get, is_none, Option, Some, None, if◌then◌else◌}
 use Rattle.std.specs.List.{list_all, list_any}
 use Rattle.dc_tree.specs.declared.fail.Refusal.{Refusal}
 use Rattle.dc_tree.specs.declared.token.Mark.{Mark}
@@ -73,43 +73,42 @@ abbrev pub is_array : Meaning → Bool
 is_array (Meaning.Variable form (suc rank)) = true
 is_array other = false
 
--- An argument as the rules see it. A variable is a name or an element of an array.
+-- a name alone as an argument of this form, and a name with arguments or subscripts
+abbrev pub named_argument : Standing → Bool → Form → Name → Argument
+named_argument standing keyed form text =
+    record { keyed = keyed; form = form; is_name = true; is_variable = is_variable (meaning standing text); is_fixed = is_fixed standing text }
+
+abbrev pub element_argument : Standing → Bool → Form → Name → Argument
+element_argument standing keyed form text =
+    record { keyed = keyed; form = form; is_name = false; is_variable = is_array (meaning standing text); is_fixed = is_fixed standing text }
+
+-- An argument of this form as the rules see it. A variable is a name or an element of an array.
+abbrev pub argument_with : Standing → Bool → Form → Tree → Argument
+argument_with standing keyed form (name text) = named_argument standing keyed form text
+argument_with standing keyed form (refer text args) = element_argument standing keyed form text
+argument_with standing keyed form other = record { keyed = keyed; form = form; is_name = false; is_variable = false; is_fixed = false }
+
 abbrev pub argument_of : Standing → Bool → Tree → Argument
-argument_of standing keyed (name text) = record {
-  keyed = keyed;
-  form = (known_at standing (name text)).form;
-  is_name = true;
-  is_variable = is_variable (meaning standing text);
-  is_fixed = is_fixed standing text;
-}
-argument_of standing keyed (refer text args) = record {
-  keyed = keyed;
-  form = (known_at standing (refer text args)).form;
-  is_name = false;
-  is_variable = is_array (meaning standing text);
-  is_fixed = is_fixed standing text;
-}
-argument_of standing keyed other = record { keyed = keyed; form = (known_at standing other).form; is_name = false; is_variable = false; is_fixed = false }
+argument_of standing keyed tree = argument_with standing keyed (known_at standing tree).form tree
 
 abbrev pub arguments_of : Standing → Args → List Argument
 arguments_of standing no_args = []
 arguments_of standing (arg keyed value rest) = argument_of standing keyed value ∷ arguments_of standing rest
 
+abbrev pub or_none : Option (List Meaning) → List Meaning
+or_none (Some dummies) = dummies
+or_none None = []
+
 -- The dummies of a procedure by its number, from 1.
 abbrev pub dummies_of : Standing → ℕ → List Meaning
-dummies_of standing place = by place
-  where
-    or_none : Option (List Meaning) → List Meaning
-    or_none (Some dummies) = dummies
-    or_none None = []
-    by : ℕ → List Meaning
-    by zero = []
-    by (suc before) = or_none (slice_get standing.callees before)
+dummies_of standing place = if place == 0 then [] else or_none (slice_get standing.callees (place - 1))
+
+abbrev pub all_whole : List Argument → Bool
+all_whole arguments = list_all (λ argument. is_whole (form_in argument)) arguments
 
 -- K28: a subscript is no INTEGER. K30: `kind =` stands in front of one.
 abbrev pub subscript_findings : ℕ → List Argument → List Refusal
-subscript_findings line arguments =
-    finding_if (not (list_all (λ a. is_whole (form_in a)) arguments)) 28 line ++ finding_if (not (none_keyed arguments)) 30 line
+subscript_findings line arguments = finding_if (not (all_whole arguments)) 28 line ++ finding_if (not (none_keyed arguments)) 30 line
 
 -- K30: an argument doesn't fit its dummy. K31: what may not be defined can be defined through one.
 abbrev pub call_findings : ℕ → List Meaning → List Argument → List Refusal
@@ -147,3 +146,17 @@ abbrev mutual
   pub operand_findings_in : Standing → ℕ → Args → List Refusal
   operand_findings_in standing line no_args = []
   operand_findings_in standing line (arg keyed value rest) = operand_findings standing line value ++ operand_findings_in standing line rest
+
+-- ---- lists of expressions in a statement
+
+abbrev pub each_number_findings : Standing → ℕ → List Tree → List Refusal
+each_number_findings standing line [] = []
+each_number_findings standing line (tree ∷ rest) = number_findings standing line tree ++ each_number_findings standing line rest
+
+abbrev pub each_operand_findings : Standing → ℕ → List Tree → List Refusal
+each_operand_findings standing line [] = []
+each_operand_findings standing line (tree ∷ rest) = operand_findings standing line tree ++ each_operand_findings standing line rest
+
+-- Expressions as arguments of CALL, in front of which no `kind =` can stand.
+abbrev pub plain_arguments : Standing → List Tree → List Argument
+plain_arguments standing trees = map (argument_of standing false) trees
