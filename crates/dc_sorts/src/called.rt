@@ -255,7 +255,8 @@ fn called_where_each(function: Intrinsic, form: Form, args: &[Known]) -> Option<
 }
 
 fn first_fitted(form: Form, args: &[Known]) -> Option<i64>
-    ensures { result ≡ option_map (fitted (sort_of_form form)) (first_of (map number_given args.now)) }
+    ensures { result
+        ≡ option_map (fitted (sort_of_form form)) (first_of (map number_given args.now)) }
 {
     match args {
         [first, ..] => Some(fitted(form, number_given(first))),

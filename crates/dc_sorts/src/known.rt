@@ -28,7 +28,8 @@ pub struct Known {
 
 /// What is known of a truth.
 pub fn known_truth(_standing: &Standing, value: bool) -> Known
-    ensures { result ≡ knowing.known_of (scope_at (standing_of _standing.now)) (syntax.truth value) }
+    ensures { result
+        ≡ knowing.known_of (scope_at (standing_of _standing.now)) (syntax.truth value) }
 {
     Known {
         form: Form::Logical,
@@ -87,7 +88,8 @@ fn is_arithmetic(mark: Mark) -> bool
 
 /// The form of what a mark makes of two operands, where these are brought to a form.
 fn form_joined_by(mark: Mark, joined: Form) -> Form
-    ensures { result ≡ form_of_sort (if typing.is_arithmetic mark then sort_of_form joined else logical) }
+    ensures { let sort = if typing.is_arithmetic mark then sort_of_form joined else logical in
+        result ≡ form_of_sort sort }
 {
     if is_arithmetic(mark) {
         joined
@@ -184,7 +186,8 @@ fn joined_values(mark: Mark, form: Form, a: Option<i64>, b: Option<i64>) -> Opti
 }
 
 fn led_value(mark: Mark, form: Form, a: Option<i64>) -> Option<i64>
-    ensures { result ≡ option_and_then (λ a. value_of (operating.led_by mark (sort_of_form form) a)) a }
+    ensures { result
+        ≡ option_and_then (λ a. value_of (operating.led_by mark (sort_of_form form) a)) a }
 {
     match a {
         Some(right) => led(mark, form, right),

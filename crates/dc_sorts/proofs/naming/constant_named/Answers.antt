@@ -1,3 +1,4 @@
+-- By what the name means.
 use Rattle.std.proofs.Common.{sym, ap, ◌∙◌}
 use Rattle.dc_sorts.specs.Meanings.{constant_of_meaning}
 use Rattle.dc_sorts.specs.Standing.{standing_of}

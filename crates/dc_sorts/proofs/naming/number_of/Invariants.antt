@@ -1,3 +1,4 @@
+-- The digits that come stand behind the number, which is capped.
 use Rattle.std.proofs.Common.{◌≡◌, drop}
 use Rattle.dc_tree.specs.Literals.{number_of, number_from}
 use Rattle.dc_sorts.specs.Naming.{capped}

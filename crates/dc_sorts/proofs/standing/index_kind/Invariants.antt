@@ -1,3 +1,4 @@
+-- It is left to look among the indexes that come.
 use Rattle.std.proofs.Common.{◌≡◌, drop}
 use Rattle.dc_sorts.specs.Standing.{index_kind}
 use Rattle.dc_sorts.proofs.standing.index_kind.Given as goal
