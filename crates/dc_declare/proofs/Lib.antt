@@ -1,0 +1,4 @@
+pub mod Caps
+pub mod Rules
+pub mod Sound
+pub mod Tabled

@@ -1,0 +1,4 @@
+-- Rules by which functions prove.
+use Rattle.std.proofs.lemmas.List.{length-map}
+
+pub ruleset counting = (length-map)

@@ -1,0 +1,10 @@
+pub mod Bounds
+pub mod Declarations
+pub mod Entities
+pub mod Headings
+pub mod Names
+pub mod Tables
+pub mod Totals
+pub mod Types
+pub mod Uses
+pub mod Values

@@ -1,0 +1,23 @@
+//! Declarations: the declared names of a program, and the rules that declarations break.
+#![tactic(auto)]
+
+mod bounds;
+mod entity;
+mod entry;
+mod front;
+mod given;
+mod heading;
+mod names;
+mod nature;
+mod procedure;
+mod program;
+mod scan;
+mod stub;
+mod table;
+mod totals;
+mod types;
+mod used;
+mod values;
+
+pub use program::declare;
+pub use totals::sizes_can_be_capped_early;
