@@ -1,8 +1,8 @@
 -- The symbols that declarations make are sound.
-use Rattle.std.proofs.Common.{◌≡◌, ℕ, zero, suc, Bool, true, false, not, ◌&&◌, List, [], ◌∷◌, map, length, replicate, Option, Some, None, refl}
+use Rattle.std.proofs.Common.{◌≡◌, ℕ, zero, suc, Bool, true, false, not, ◌&&◌, List, [], ◌∷◌, map, length, replicate, Option, Some, None, refl, ap₂}
 use Rattle.std.specs.Prelude.{nat_eq, if◌then◌else◌, ℤ, pos}
 use Rattle.std.specs.List.{list_all}
-use Rattle.std.proofs.lemmas.Bool.{both, and_parts}
+use Rattle.std.proofs.lemmas.Bool.{and_parts}
 use Rattle.dc_int.specs.declared.kind.Kind.{Kind}
 use Rattle.dc_int.specs.Kinds.{wrapped, is_truth_value, value_fits}
 use Rattle.dc_int.specs.Reductions.{truth, number_of_truth}
@@ -26,6 +26,9 @@ use Rattle.dc_declare.specs.Tables.{symbol_with}
 use Rattle.dc_declare.specs.Values.{stored, suits, taken_as, worth, trees_in, values_in, is_filling, first_value, filled}
 
 -- ---- values
+
+both : {a b : Bool} → a ≡ true → b ≡ true → (a && b) ≡ true
+both one other = ap₂ (λ a b. a && b) one other
 
 abbrev fits : ElementType → ℤ → Bool
 fits form z = value_fits form.kind form.logical z
