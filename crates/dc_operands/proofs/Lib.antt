@@ -1,2 +1,3 @@
 pub mod Dummies
+pub mod Examples
 pub mod Gathering

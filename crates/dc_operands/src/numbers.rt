@@ -4,7 +4,7 @@ ghost use Rattle.std.specs.Prelude.{◌≡◌, map};
 ghost use Rattle.dc_tree.specs.Findings.{least_with_all};
 ghost use Rattle.dc_tree.specs.Syntax.{arg_tree, args_from, number, tree};
 ghost use Rattle.dc_sorts.specs.Standing.{standing_of};
-ghost use Rattle.dc_operands.specs.Operands.{is_out_of_kind, number_findings, number_findings_in};
+ghost use Rattle.dc_operands.specs.Operands.{each_number_findings, is_out_of_kind, number_findings, number_findings_in};
 
 use dc_sorts::{Known, Standing, known_number};
 use dc_tree::{Arg, Expr, LeastFinding, Suffix};
@@ -59,5 +59,21 @@ pub fn note_numbers(standing: &Standing, line: u32, expr: &Expr, found: &mut Lea
             note_numbers(standing, line, right.get(), found);
         }
         _ => {}
+    }
+}
+
+/// Notes the numbers in expressions that aren't in the range of their kind.
+#[tactic(auto, using(dc_tree::proofs::Findings::notes))]
+pub fn note_all_numbers(
+    standing: &Standing,
+    line: u32,
+    exprs: &[Expr],
+    found: &mut LeastFinding,
+)
+    ensures { found.new ≡ least_with_all found.old
+        (each_number_findings (standing_of standing.now) line (map tree exprs.now)) }
+{
+    for expr in exprs {
+        note_numbers(standing, line, expr, found);
     }
 }
