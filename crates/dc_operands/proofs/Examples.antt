@@ -2,10 +2,9 @@
 -- m of kind 2 and b, LOGICAL, the array v of 3, the constant c = 1, the function f of one dummy of INTENT(IN),
 -- and the subroutine p with a dummy of INTENT(IN) and one of INTENT(INOUT), both of kind 4. n is the variable of
 -- a counted DO around, and i the index of a DO CONCURRENT.
-use Rattle.std.proofs.Common.{◌≡◌, true, false, List, [], ◌∷◌, Some, None, refl}
+use Rattle.std.proofs.Common.{◌≡◌, true, false, List, [], ◌∷◌, refl}
 use Rattle.std.specs.Prelude.{ℕ, Bool, pos, codes}
 use Rattle.dc_int.specs.declared.kind.Kind.{Kind}
-use Rattle.dc_int.specs.declared.operation.Op.{Op}
 use Rattle.dc_tree.specs.declared.fail.Refusal.{Refusal}
 use Rattle.dc_tree.specs.declared.stmt.Intent.{Intent}
 use Rattle.dc_tree.specs.declared.symbols.Role as roles
@@ -14,11 +13,10 @@ use Rattle.dc_tree.specs.declared.token.Mark.{Mark}
 use Rattle.dc_tree.specs.declared.token.Suffix.{Suffix}
 use Rattle.dc_tree.specs.Findings.{finding}
 use Rattle.dc_tree.specs.Statements.{Name}
-use Rattle.dc_tree.specs.Syntax.{Tree, Args, number, truth, name, refer, unary, binary, no_args, arg}
+use Rattle.dc_tree.specs.Syntax.{Tree, Args, number, name, refer, unary, binary, no_args, arg}
 use Rattle.dc_sorts.specs.declared.form.Form.{Form}
 use Rattle.dc_sorts.specs.declared.meaning.Meaning.{Meaning}
 use Rattle.dc_sorts.specs.Standing.{Standing}
-use Rattle.dc_operands.specs.Arguments.{same_form, takes}
 use Rattle.dc_operands.specs.Operands.{dummies_of, call_findings, number_findings, operand_findings, plain_arguments}
 
 abbrev symbol : ℕ → Name → roles.Role → Symbol

@@ -1,8 +1,7 @@
 -- Which arguments a reference takes. After ISO/IEC 1539-1:2023, clauses 15.5.2 and 16.9; that the numbers which
 -- a function takes together have one kind is this project's own where the standard lets kinds differ.
-use Rattle.std.specs.Prelude.{ℕ, Bool, true, false, not, ◌&&◌, ◌||◌, List, [], ◌∷◌, map, if◌then◌else◌}
+use Rattle.std.specs.Prelude.{Bool, true, false, not, ◌&&◌, ◌||◌, List, [], ◌∷◌, map}
 use Rattle.std.specs.List.{list_all, list_any}
-use Rattle.dc_int.specs.declared.kind.Kind.{Kind}
 use Rattle.dc_int.specs.declared.operation.Op.{Op}
 use Rattle.dc_int.specs.Kinds.{bits_of}
 use Rattle.std.specs.Prelude.{nat_eq}

@@ -64,12 +64,7 @@ pub fn note_numbers(standing: &Standing, line: u32, expr: &Expr, found: &mut Lea
 
 /// Notes the numbers in expressions that aren't in the range of their kind.
 #[tactic(auto, using(dc_tree::proofs::Findings::notes))]
-pub fn note_all_numbers(
-    standing: &Standing,
-    line: u32,
-    exprs: &[Expr],
-    found: &mut LeastFinding,
-)
+pub fn note_all_numbers(standing: &Standing, line: u32, exprs: &[Expr], found: &mut LeastFinding)
     ensures { found.new ≡ least_with_all found.old
         (each_number_findings (standing_of standing.now) line (map tree exprs.now)) }
 {

@@ -49,10 +49,8 @@ pub(crate) fn is_variable(meaning: Meaning) -> bool
     ensures { result ≡ is_variable meaning }
 {
     match meaning {
-        Meaning::Index(_)
-        | Meaning::Variable { .. }
-        | Meaning::Result(_)
-        | Meaning::Dummy { .. } => true,
+        Meaning::Index(_) | Meaning::Variable { .. } | Meaning::Result(_) | Meaning::Dummy { .. } =>
+            true,
         _ => false,
     }
 }

@@ -1,5 +1,5 @@
 -- No argument is left, or no dummy.
-use Rattle.std.proofs.Common.{◌≡◌, ◌<◌, ◌≤◌, length, sym, ◌∙◌, arith}
+use Rattle.std.proofs.Common.{◌<◌, ◌≤◌, length, sym, ◌∙◌, arith}
 use Rattle.std.proofs.lemmas.Bool.{ltb-false}
 use Rattle.dc_operands.proofs.Dummies.{fit-end, fit-short}
 use Rattle.dc_operands.proofs.fitting.fit_all.Goals as goal

@@ -1,5 +1,5 @@
 -- No argument is left.
-use Rattle.std.proofs.Common.{◌≡◌, ◌≤◌, length, sym, ◌∙◌, arith}
+use Rattle.std.proofs.Common.{◌≤◌, length, sym, ◌∙◌, arith}
 use Rattle.dc_operands.proofs.Dummies.{fixed-end}
 use Rattle.dc_operands.proofs.fitting.some_breaks_fixed.Goals as goal
 

@@ -3,7 +3,6 @@ use Rattle.std.proofs.Common.{◌≡◌, ℕ, List, map, ap, sym, ◌∙◌}
 use Rattle.dc_tree.specs.declared.expr.Arg.{Arg}
 use Rattle.dc_tree.specs.Syntax.{Tree, arg_tree, args_from, tree}
 use Rattle.dc_tree.proofs.Views.{tree-Refer}
-use Rattle.dc_sorts.specs.declared.known.Known.{Known}
 use Rattle.dc_sorts.specs.Knowing.{known_of, known_args, known_referred}
 use Rattle.dc_sorts.specs.Standing.{scope_at, standing_of}
 use Rattle.dc_sorts.proofs.Knowing.{known-refer}

@@ -10,9 +10,9 @@ use Rattle.dc_operands.proofs.operands.+operands.Given as goal
 abbrev pub invariant-note_each-loop-arg : goal.invariant-note_each-loop-arg
 invariant-note_each-loop-arg l = record {
   known : l.known ++ known_args (scope_at (standing_of l.standing)) (args_from (map arg_tree (drop l.arg-index l.args)))
-    ≡ known_args (scope_at (standing_of l.standing)) (args_from (map arg_tree l.args));
+      ≡ known_args (scope_at (standing_of l.standing)) (args_from (map arg_tree l.args));
   arguments : l.arguments ++ arguments_of (standing_of l.standing) (args_from (map arg_tree (drop l.arg-index l.args)))
-    ≡ arguments_of (standing_of l.standing) (args_from (map arg_tree l.args));
+      ≡ arguments_of (standing_of l.standing) (args_from (map arg_tree l.args));
   findings : least_with_all l.found (operand_findings_in (standing_of l.standing) l.line (args_from (map arg_tree (drop l.arg-index l.args))))
-    ≡ least_with_all l.fn.found (operand_findings_in (standing_of l.standing) l.line (args_from (map arg_tree l.args)))
+      ≡ least_with_all l.fn.found (operand_findings_in (standing_of l.standing) l.line (args_from (map arg_tree l.args)));
 }
