@@ -67,7 +67,8 @@ pub(crate) fn note_suffix(standing: &Standing, line: u32, suffix: &Suffix, found
     }
 }
 
-fn misfits(rank: usize, count: usize) -> bool
+/// Whether a variable of this rank stands in front of another number of subscripts.
+pub fn misfits(rank: usize, count: usize) -> bool
     ensures { result ≡ misfits rank count }
 {
     rank == 0 || count != rank
