@@ -1,0 +1,10 @@
+//! `check_types`: whether the expressions of a program are of the types that are asked, its numbers in the range
+//! of their kinds, its arguments those of what it calls, and only what may be defined is defined.
+#![tactic(auto)]
+
+mod actions;
+mod expressions;
+mod headers;
+mod indexes;
+mod naming;
+mod targets;
