@@ -1,4 +1,5 @@
 pub mod Caps
+mod Examples
 pub mod Rules
 pub mod Sound
 pub mod Tabled

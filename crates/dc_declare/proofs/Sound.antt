@@ -1,5 +1,5 @@
 -- The symbols that declarations make are sound.
-use Rattle.std.proofs.Common.{◌≡◌, ℕ, zero, suc, Bool, true, false, not, ◌&&◌, List, [], ◌∷◌, map, length, replicate, Option, Some, None, refl, ap₂}
+use Rattle.std.proofs.Common.{◌≡◌, ℕ, zero, suc, Bool, true, false, not, ◌&&◌, List, [], ◌∷◌, map, length, replicate, Option, Some, None, refl, ap₂, arith}
 use Rattle.std.specs.Prelude.{nat_eq, if◌then◌else◌, ℤ, pos}
 use Rattle.std.specs.List.{list_all}
 use Rattle.std.proofs.lemmas.Bool.{and_parts}
@@ -103,9 +103,12 @@ may_stand unit (Nature.Dummy place) = not (nat_eq unit 0)
 may_stand unit Nature.Result = not (nat_eq unit 0)
 may_stand unit other = true
 
+not-zero : (before : ℕ) → not (nat_eq (suc before) 0) ≡ true
+not-zero before = grind arith
+
 inside-stands : (before : ℕ) (nature : Nature) → may_stand (suc before) nature ≡ true
-inside-stands before (Nature.Dummy place) = refl
-inside-stands before Nature.Result = refl
+inside-stands before (Nature.Dummy place) = not-zero before
+inside-stands before Nature.Result = not-zero before
 inside-stands before Nature.Constant = refl
 inside-stands before Nature.Variable = refl
 

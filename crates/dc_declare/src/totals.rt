@@ -1,8 +1,8 @@
 //! How many elements the variables of a unit have.
 
-ghost use Rattle.std.specs.Prelude.{◌≡◌, ◌≤◌, ◌+◌, ◌*◌, ℕ, length};
+ghost use Rattle.std.specs.Prelude.{◌≡◌, ◌≤◌, ◌+◌, ◌*◌, ℕ};
 ghost use Rattle.dc_int.specs.Store.{extent};
-ghost use Rattle.dc_declare.specs.Totals.{limit_in, capped, size_of, total_with, is_over};
+ghost use Rattle.dc_declare.specs.Totals.{capped, size_of, total_with, is_over};
 
 /// The most elements that the variables of the main program may have.
 const MOST_OUTSIDE: u32 = 4_194_304;
@@ -31,14 +31,22 @@ fn extent(low: i64, high: i64) -> u64
     capped(high.abs_diff(low).saturating_add(1))
 }
 
+fn extent_of(dimension: &(i64, i64)) -> u64
+    ensures equal { result ≡ capped (extent dimension.now) }
+    ensures bound { result ≤ 4194305 }
+{
+    let (low, high) = dimension;
+    extent(*low, *high)
+}
+
 /// How many elements there are within bounds.
-#[tactic(auto, using(dc_tree::proofs::Findings::notes))]
 pub(crate) fn size_of(bounds: &[(i64, i64)]) -> u32
     ensures { result ≡ size_of bounds.now }
 {
     let mut size: u64 = 1;
-    for (low, high) in bounds {
-        size = capped(size * extent(*low, *high));
+    for dimension in bounds {
+        let one = extent_of(dimension);
+        size = capped(size * one);
     }
     size as u32
 }
@@ -57,7 +65,6 @@ pub(crate) fn is_over(unit: u32, total: u32) -> bool
 }
 
 /// Capping at each step is capping at the end.
-#[tactic(auto, using(crate::proofs::Caps::caps))]
 pub fn sizes_can_be_capped_early()
     ensures product { (m n : ℕ) → capped (capped m * capped n) ≡ capped (m * n) }
     ensures sum { (m n : ℕ) → capped (capped m + capped n) ≡ capped (m + n) }

@@ -1,9 +1,8 @@
 //! The values that declarations give.
 
-ghost use Rattle.std.specs.Prelude.{◌≡◌, ◌∷◌, [], IfOk, IsTrue, OnOk, MatchOption, if◌then◌else◌, is_some, length, map, replicate};
+ghost use Rattle.std.specs.Prelude.{◌≡◌, ◌∷◌, [], IfOk, OnOk, if◌then◌else◌, is_some, length, map, replicate};
 
 ghost use Rattle.dc_declare.specs.Values.{stored, suits, taken_as, value_in, worth, value_findings, each_value, trees_in, values_in, initial_findings, is_filling, list_findings, first_value, filled, is_valued};
-ghost use Rattle.dc_int.specs.Kinds.{value_fits};
 ghost use Rattle.dc_int.specs.Reductions.{truth, number_of_truth};
 ghost use Rattle.dc_sorts.specs.Standing.{standing_of};
 ghost use Rattle.dc_tree.specs.Findings.{least_with_all};
@@ -27,8 +26,7 @@ fn truth_of(value: i64) -> i64
 }
 
 fn stored(form: ElementType, value: i64) -> i64
-    ensures equal { result ≡ stored form value }
-    ensures fits { IsTrue (value_fits form.kind form.logical result) }
+    ensures { result ≡ stored form value }
 {
     if form.logical {
         truth_of(value)
@@ -47,7 +45,7 @@ fn suits(form: ElementType, given: Form) -> bool
 }
 
 fn taken_as(form: ElementType, constant: Option<Constant>) -> Option<i64>
-    ensures equal { result ≡ taken_as form constant }
+    ensures { result ≡ taken_as form constant }
 {
     let constant = constant?;
     if suits(form, constant.form) {
