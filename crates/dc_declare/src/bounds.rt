@@ -8,7 +8,7 @@ ghost use Rattle.dc_tree.specs.Findings.{least_with_all};
 ghost use Rattle.dc_tree.specs.Statements.{dimension_of};
 ghost use Rattle.dc_tree.specs.Syntax.{tree};
 
-use crate::stub::{note_uses, whole_constant};
+use dc_uses::{note_uses, whole_constant};
 use dc_sorts::Standing;
 use dc_text::{DcList, NoMemory};
 use dc_tree::{Bound, Expr, LeastFinding};

@@ -12,7 +12,6 @@ mod nature;
 mod procedure;
 mod program;
 mod scan;
-mod stub;
 mod table;
 mod totals;
 mod types;

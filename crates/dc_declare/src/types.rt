@@ -7,7 +7,7 @@ ghost use Rattle.dc_tree.specs.Findings.{least_with_all};
 ghost use Rattle.dc_tree.specs.Statements.{type_form};
 ghost use Rattle.dc_tree.specs.Syntax.{tree};
 
-use crate::stub::{note_kind, note_uses, whole_constant};
+use dc_uses::{note_kind, note_uses, whole_constant};
 use dc_int::Kind;
 use dc_sorts::Standing;
 use dc_text::NoMemory;

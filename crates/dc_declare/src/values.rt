@@ -10,13 +10,12 @@ ghost use Rattle.dc_tree.specs.Statements.{initial};
 ghost use Rattle.dc_tree.specs.Syntax.{tree};
 
 use crate::bounds::told;
-use crate::stub::{constant_of, note_uses};
 use crate::types::ElementType;
 use dc_int::wrap_to;
 use dc_sorts::{Form, Standing};
 use dc_text::{DcList, NoMemory};
 use dc_tree::{Expr, Init, LeastFinding};
-use dc_uses::Constant;
+use dc_uses::{Constant, constant_of, note_uses};
 use std::alloc::Global;
 
 fn truth_of(value: i64) -> i64
