@@ -1,0 +1,4 @@
+pub mod Cases
+pub mod Deeds
+pub mod Headers
+pub mod Scope
