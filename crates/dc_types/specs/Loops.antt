@@ -73,10 +73,6 @@ index_name symbols unit typed ranging = record { name = ranging.name; kind = ind
 abbrev pub index_names : Standing → Option Kind → List Ranging → List IndexName
 index_names standing typed names = map (index_name standing.symbols standing.unit typed) names
 
--- The names where the limits of a header stand: its indexes are in front of those around.
-abbrev pub headed : Standing → Option Kind → List Ranging → Standing
-headed standing typed names = record standing { indexes = index_names standing typed names ++ standing.indexes }
-
 -- ---- the names inside of a loop
 
 abbrev pub local_names : Local → List Name
@@ -99,21 +95,22 @@ abbrev pub still_indexes : List Local → List IndexName → List IndexName
 still_indexes locality [] = []
 still_indexes locality (index ∷ rest) = if is_local locality index.name then still_indexes locality rest else index ∷ still_indexes locality rest
 
--- The names around that aren't LOCAL in a loop.
-abbrev pub unhidden : Standing → List Local → Standing
-unhidden standing locality =
-    record standing { indexes = still_indexes locality standing.indexes; counted = still_counted locality standing.counted }
+-- The names around, but with these indexes and variables of counted DOs.
+abbrev pub with_loops : Standing → List IndexName → List Name → Standing
+with_loops standing indexes counted = record standing { indexes = indexes; counted = counted }
 
--- The names in the block of a DO CONCURRENT, and in its mask.
+-- The names in the block of a DO CONCURRENT, and in its mask: its indexes are in front of those around.
 abbrev pub in_concurrent : Standing → Option TypeForm → List Ranging → List Local → Standing
-in_concurrent standing form names locality = headed (unhidden standing locality) (typed_kind standing form) names
+in_concurrent standing form names locality =
+    with_loops standing (index_names standing (typed_kind standing form) names ++ still_indexes locality standing.indexes) (still_counted locality standing.counted)
 
 -- The names in the block of a counted DO: its variable may not be defined there.
-abbrev pub in_counted : Standing → Name → Standing
-in_counted standing text = record standing { counted = text ∷ standing.counted }
+abbrev pub in_counted : Standing → Option Ranging → Standing
+in_counted standing None = standing
+in_counted standing (Some ranging) = with_loops standing standing.indexes (ranging.name ∷ standing.counted)
 
 abbrev pub inside : Standing → Statement → Standing
-inside standing (do_line label (Some ranging)) = in_counted standing ranging.name
+inside standing (do_line label counted) = in_counted standing counted
 inside standing (concurrent label form names mask locality) = in_concurrent standing form names locality
 inside standing other = standing
 
@@ -132,7 +129,8 @@ abbrev pub mask_findings : Standing → ℕ → Option Tree → List Refusal
 mask_findings standing line None = []
 mask_findings standing line (Some tree) = test_findings standing line tree
 
+-- In the limits nothing is LOCAL yet.
 abbrev pub header_findings : Standing → ℕ → Option TypeForm → List Ranging → Option Tree → List Local → List Refusal
 header_findings standing line form names mask locality =
     header_type standing line form
-    ++ (each_ranging_findings (headed standing (typed_kind standing form) names) line names ++ mask_findings (in_concurrent standing form names locality) line mask)
+    ++ (each_ranging_findings (in_concurrent standing form names []) line names ++ mask_findings (in_concurrent standing form names locality) line mask)

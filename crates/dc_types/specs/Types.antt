@@ -7,7 +7,7 @@ use Rattle.dc_tree.specs.declared.fail.Refusal.{Refusal}
 use Rattle.dc_tree.specs.declared.symbols.Symbol.{Symbol}
 use Rattle.dc_tree.specs.Blocks.{Line, Item, Items, Arms, plain, branch, select, loop, none, and_then, no_arms, arm, Subprogram, Source}
 use Rattle.dc_tree.specs.Findings.{IsFirst, found_in}
-use Rattle.dc_tree.specs.Statements.{Name, TypeForm, Dimension, Attribute, dimension, Initial, scalar, listed, Declared, Prefixed, typed, CaseRange, only, from, up_to, between, Statement, declare, procedure_line, if_then, else_if, if_action, select_case, case, do_line, do_while, concurrent, act}
+use Rattle.dc_tree.specs.Statements.{Name, Deed, TypeForm, Dimension, Attribute, dimension, Initial, scalar, listed, Declared, Prefixed, typed, CaseRange, only, from, up_to, between, Statement, declare, procedure_line, if_then, else_if, if_action, select_case, case, do_line, do_while, concurrent, act}
 use Rattle.dc_tree.specs.Syntax.{Tree}
 use Rattle.dc_sorts.specs.declared.form.Form.{Form}
 use Rattle.dc_sorts.specs.declared.meaning.Meaning.{Meaning}
@@ -19,11 +19,14 @@ use Rattle.dc_types.specs.Loops.{counted_findings, header_findings, inside, type
 
 -- ---- statements
 
+abbrev pub guarded_findings : Standing → ℕ → Tree → Deed → List Refusal
+guarded_findings standing line test deed = test_findings standing line test ++ deed_findings standing line deed
+
 -- K28: a condition isn't LOGICAL. What a loop's header breaks stands with the loops.
 abbrev pub statement_findings : Standing → ℕ → Statement → List Refusal
 statement_findings standing line (if_then test) = test_findings standing line test
 statement_findings standing line (else_if test) = test_findings standing line test
-statement_findings standing line (if_action test deed) = test_findings standing line test ++ deed_findings standing line deed
+statement_findings standing line (if_action test deed) = guarded_findings standing line test deed
 statement_findings standing line (select_case selector) = expression_findings standing line selector
 statement_findings standing line (do_line label counted) = counted_findings standing line counted
 statement_findings standing line (do_while label test) = test_findings standing line test
@@ -49,10 +52,15 @@ abbrev pub selector_form : Standing → Statement → Option Form
 selector_form standing (select_case selector) = Some (form_at standing selector)
 selector_form standing other = None
 
+-- what stands in front of an arm, where a selector is of this form
+abbrev pub case_findings : Standing → Form → ℕ → Statement → List Refusal
+case_findings standing form line (case ranges) = each_range_findings standing line form ranges
+case_findings standing form line other = statement_findings standing line other
+
 -- What stands in front of an arm; in a SELECT CASE there is a selector of this form.
 abbrev pub head_findings : Standing → Option Form → ℕ → Statement → List Refusal
-head_findings standing (Some form) line (case ranges) = each_range_findings standing line form ranges
-head_findings standing selector line says = statement_findings standing line says
+head_findings standing None line says = statement_findings standing line says
+head_findings standing (Some form) line says = case_findings standing form line says
 
 -- ---- blocks
 
@@ -84,10 +92,13 @@ dimension_numbers standing line [] = []
 dimension_numbers standing line (one ∷ rest) =
     optional_numbers standing line one.low ++ (number_findings standing line one.high ++ dimension_numbers standing line rest)
 
-abbrev pub attribute_numbers : Standing → ℕ → List Attribute → List Refusal
-attribute_numbers standing line [] = []
-attribute_numbers standing line (dimension dimensions ∷ rest) = dimension_numbers standing line dimensions ++ attribute_numbers standing line rest
-attribute_numbers standing line (other ∷ rest) = attribute_numbers standing line rest
+abbrev pub attribute_numbers : Standing → ℕ → Attribute → List Refusal
+attribute_numbers standing line (dimension dimensions) = dimension_numbers standing line dimensions
+attribute_numbers standing line other = []
+
+abbrev pub each_attribute_numbers : Standing → ℕ → List Attribute → List Refusal
+each_attribute_numbers standing line [] = []
+each_attribute_numbers standing line (attribute ∷ rest) = attribute_numbers standing line attribute ++ each_attribute_numbers standing line rest
 
 abbrev pub bounds_numbers : Standing → ℕ → Option (List Dimension) → List Refusal
 bounds_numbers standing line None = []
@@ -103,15 +114,21 @@ entity_numbers standing line [] = []
 entity_numbers standing line (entity ∷ rest) =
     bounds_numbers standing line entity.bounds ++ (initial_numbers standing line entity.initial ++ entity_numbers standing line rest)
 
-abbrev pub prefix_numbers : Standing → ℕ → List Prefixed → List Refusal
-prefix_numbers standing line [] = []
-prefix_numbers standing line (typed form ∷ rest) = type_numbers standing line form ++ prefix_numbers standing line rest
-prefix_numbers standing line (other ∷ rest) = prefix_numbers standing line rest
+abbrev pub prefix_numbers : Standing → ℕ → Prefixed → List Refusal
+prefix_numbers standing line (typed form) = type_numbers standing line form
+prefix_numbers standing line other = []
+
+abbrev pub each_prefix_numbers : Standing → ℕ → List Prefixed → List Refusal
+each_prefix_numbers standing line [] = []
+each_prefix_numbers standing line (prefix ∷ rest) = prefix_numbers standing line prefix ++ each_prefix_numbers standing line rest
+
+abbrev pub declaration_numbers : Standing → ℕ → TypeForm → List Attribute → List Declared → List Refusal
+declaration_numbers standing line form attributes entities =
+    type_numbers standing line form ++ (each_attribute_numbers standing line attributes ++ entity_numbers standing line entities)
 
 abbrev pub declared_numbers : Standing → ℕ → Statement → List Refusal
-declared_numbers standing line (declare form attributes colons entities) =
-    type_numbers standing line form ++ (attribute_numbers standing line attributes ++ entity_numbers standing line entities)
-declared_numbers standing line (procedure_line prefix function text brackets dummies result) = prefix_numbers standing line prefix
+declared_numbers standing line (declare form attributes colons entities) = declaration_numbers standing line form attributes entities
+declared_numbers standing line (procedure_line prefix function text brackets dummies result) = each_prefix_numbers standing line prefix
 declared_numbers standing line other = []
 
 abbrev pub front_numbers : Standing → List Line → List Refusal

@@ -3,8 +3,14 @@
 #![tactic(auto)]
 
 mod actions;
+mod blocks;
+mod cases;
+mod concurrents;
 mod expressions;
+mod fronts;
 mod headers;
 mod indexes;
+mod inner;
 mod naming;
+mod statements;
 mod targets;
