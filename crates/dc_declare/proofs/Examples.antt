@@ -1,10 +1,9 @@
 -- Small programs: the symbols that their declarations make, and the rules that these break.
-use Rattle.std.proofs.Common.{◌≡◌, ℕ, true, false, List, [], ◌∷◌, map, Option, Some, None, refl}
-use Rattle.std.specs.Prelude.{codes, ℤ, pos, negsuc}
+use Rattle.std.proofs.Common.{◌≡◌, ℕ, true, false, List, [], ◌∷◌, Some, None, refl}
+use Rattle.std.specs.Prelude.{codes, ℤ, pos}
 use Rattle.std.specs.Int.{int_wrap}
 use Rattle.dc_int.specs.declared.kind.Kind.{Kind}
 use Rattle.dc_int.specs.Store.{Bounds}
-use Rattle.dc_tree.specs.declared.fail.Refusal.{Refusal}
 use Rattle.dc_tree.specs.declared.stmt.Intent.{Intent}
 use Rattle.dc_tree.specs.declared.stmt.UseForm.{UseForm}
 use Rattle.dc_tree.specs.declared.symbols.Role as roles
@@ -14,7 +13,7 @@ use Rattle.dc_tree.specs.declared.token.Suffix.{Suffix}
 use Rattle.dc_tree.specs.Blocks.{Line, none, Subprogram, Source}
 use Rattle.dc_tree.specs.Findings.{finding}
 use Rattle.dc_tree.specs.Statements.{Name, TypeForm, logical, integer, Dimension, Attribute, parameter, dimension, intent, Initial, absent, scalar, listed, Declared}
-use Rattle.dc_tree.specs.Statements.{Prefixed, pure, typed, Statement, program_line, use_line, implicit_none, declare, procedure_line, end_line}
+use Rattle.dc_tree.specs.Statements.{pure, typed, Statement, program_line, use_line, declare, procedure_line, end_line}
 use Rattle.dc_tree.specs.Syntax.{Tree, number, truth, name, binary}
 use Rattle.dc_declare.specs.Declarations.{symbols_of, declaration_findings}
 
@@ -174,6 +173,11 @@ as_many_as_a_procedure_may = refl
 
 one_more_in_a_procedure : declaration_findings (local (codes "4097")) ≡ finding 24 4 ∷ []
 one_more_in_a_procedure = refl
+
+-- an initial value in a procedure isn't kept
+local_value : symbols_of (program [] (unit 3 (subroutine []) (at 4 (declares whole [] (valued a (numeral (codes "7")) ∷ [])) ∷ []) ∷ []))
+    ≡ named 0 f (roles.Role.Subroutine 1) ∷ named 1 a (roles.Role.Variable false Kind.K4 [] []) ∷ []
+local_value = refl
 
 -- ---- names twice, and names of a module
 

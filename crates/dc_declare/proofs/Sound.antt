@@ -14,16 +14,15 @@ use Rattle.dc_tree.specs.Syntax.{Tree}
 use Rattle.dc_sorts.specs.Standing.{Standing}
 use Rattle.dc_uses.specs.declared.constant.Constant.{Constant}
 use Rattle.dc_uses.specs.Constants.{constant_of}
-use Rattle.dc_declare.specs.declared.entry.Entry.{Entry}
 use Rattle.dc_declare.specs.declared.entry.Nature.{Nature}
 use Rattle.dc_declare.specs.declared.given.Given.{Given}
 use Rattle.dc_declare.specs.declared.heading.Heading.{Heading}
 use Rattle.dc_declare.specs.declared.types.ElementType.{ElementType}
 use Rattle.dc_declare.specs.Bounds.{told, is_array}
-use Rattle.dc_declare.specs.Entities.{nature_in, entry_of, role_of}
+use Rattle.dc_declare.specs.Entities.{nature_in, entry_of, initial_of, role_of}
 use Rattle.dc_declare.specs.Totals.{size_of, is_over}
 use Rattle.dc_declare.specs.Tables.{symbol_with}
-use Rattle.dc_declare.specs.Values.{stored, suits, taken_as, worth, trees_in, values_in, is_filling, first_value, filled}
+use Rattle.dc_declare.specs.Values.{stored, suits, taken_as, worth, trees_in, is_filling, first_value, filled}
 
 -- ---- values
 
@@ -125,7 +124,11 @@ entry-sound unit total name given its_initial (Nature.Dummy place) bounds values
 entry-sound unit total name given its_initial Nature.Result bounds values stands all = stands
 entry-sound unit total name given its_initial Nature.Constant bounds values stands all = both (first-fits given.form values all) refl
 entry-sound unit total name given its_initial Nature.Variable bounds values stands all =
-    both (filled-fit given.form (is_over unit total) (is_array bounds) (size_of bounds) its_initial values all) refl
+    both (initial-fit unit) refl
+  where
+    initial-fit : (u : ℕ) → all_fit given.form (initial_of u total its_initial (record { nature = Nature.Variable; bounds = bounds; values = values })) ≡ true
+    initial-fit zero = filled-fit given.form (is_over zero total) (is_array bounds) (size_of bounds) its_initial values all
+    initial-fit (suc before) = refl
 
 pub made-sound
     : (heading : Heading) (standing : Standing) (given : Given) (declared : Declared) (total : ℕ)

@@ -1,5 +1,5 @@
 -- The bounds of arrays. After ISO/IEC 1539-1:2023, clause 8.5.8.2; the greatest rank is this project's own.
-use Rattle.std.specs.Prelude.{ℕ, nat_lt, not, Bool, true, false, List, [], ◌∷◌, ◌++◌, map, length, take, Option, Some, None, is_none, ℤ, pos}
+use Rattle.std.specs.Prelude.{ℕ, nat_lt, Bool, true, false, List, [], ◌∷◌, ◌++◌, map, length, take, Option, Some, None, is_none, ℤ, pos}
 use Rattle.dc_int.specs.Store.{Bounds}
 use Rattle.dc_tree.specs.declared.fail.Refusal.{Refusal}
 use Rattle.dc_tree.specs.Findings.{finding_if}

@@ -4,7 +4,7 @@ use Rattle.std.specs.Prelude.{ℕ, suc, List, [], ◌∷◌, ◌++◌, None}
 use Rattle.dc_tree.specs.declared.fail.Refusal.{Refusal}
 use Rattle.dc_tree.specs.declared.symbols.Symbol.{Symbol}
 use Rattle.dc_tree.specs.Blocks.{Line, Subprogram, Source}
-use Rattle.dc_tree.specs.Statements.{Name, TypeForm, Attribute, Statement, use_line, declare}
+use Rattle.dc_tree.specs.Statements.{TypeForm, Attribute, Statement, use_line, declare}
 use Rattle.dc_declare.specs.declared.given.Given.{Given}
 use Rattle.dc_declare.specs.declared.heading.Heading.{Heading}
 use Rattle.dc_declare.specs.declared.scan.Scan.{Scan}

@@ -4,7 +4,6 @@ use Rattle.dc_int.specs.Store.{Bounds}
 use Rattle.dc_tree.specs.declared.fail.Refusal.{Refusal}
 use Rattle.dc_tree.specs.declared.stmt.Intent.{Intent}
 use Rattle.dc_tree.specs.declared.symbols.Role as roles
-use Rattle.dc_tree.specs.declared.symbols.Symbol.{Symbol}
 use Rattle.dc_tree.specs.Findings.{finding_if}
 use Rattle.dc_tree.specs.Statements.{Name, Attribute, parameter, dimension, intent, Dimension, Declared, Initial}
 use Rattle.dc_sorts.specs.Standing.{Standing}
@@ -118,8 +117,10 @@ is_too_much unit total entry = is_variable entry.nature && is_over unit total
 abbrev pub total_findings : ℕ → ℕ → ℕ → Entry → List Refusal
 total_findings line unit total entry = finding_if (is_too_much unit total entry) 24 line
 
+-- The initial values of a variable. Those in a procedure, which another rule refuses, aren't kept.
 abbrev pub initial_of : ℕ → ℕ → Initial → Entry → List ℤ
-initial_of unit total initial entry = filled (is_over unit total) (is_array entry.bounds) (size_of entry.bounds) initial entry.values
+initial_of zero total initial entry = filled (is_over zero total) (is_array entry.bounds) (size_of entry.bounds) initial entry.values
+initial_of (suc before) total initial entry = []
 
 abbrev pub role_of : ℕ → ℕ → Given → Initial → Entry → roles.Role
 role_of unit total given initial entry = by entry.nature

@@ -1,8 +1,6 @@
 -- How many elements the variables of a unit may have together. This project's own.
-use Rattle.std.specs.Prelude.{ℕ, zero, suc, ◌+◌, nat_lt, Bool, List, if◌then◌else◌}
+use Rattle.std.specs.Prelude.{ℕ, zero, suc, ◌+◌, nat_lt, Bool, if◌then◌else◌}
 use Rattle.dc_int.specs.Store.{Bounds, elements_in}
-use Rattle.dc_tree.specs.declared.fail.Refusal.{Refusal}
-use Rattle.dc_tree.specs.Findings.{finding_if}
 
 abbrev pub limit_in : ℕ → ℕ
 limit_in zero = 4194304

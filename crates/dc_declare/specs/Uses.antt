@@ -1,6 +1,6 @@
 -- USE of the kinds of ISO_FORTRAN_ENV, of ISO/IEC 1539-1:2023, clause 16.10.2. That only INT8 to INT64 can be used is
 -- this project's own.
-use Rattle.std.specs.Prelude.{ℕ, Bool, false, not, is_none, bytes_eq, codes, List, [], ◌∷◌, ◌++◌, Option, Some, None, if◌then◌else◌, ℤ, pos}
+use Rattle.std.specs.Prelude.{ℕ, false, not, is_none, bytes_eq, codes, List, [], ◌∷◌, ◌++◌, Option, Some, None, if◌then◌else◌, ℤ, pos}
 use Rattle.dc_int.specs.declared.kind.Kind.{Kind}
 use Rattle.dc_tree.specs.declared.fail.Refusal.{Refusal}
 use Rattle.dc_tree.specs.declared.symbols.Role as roles

@@ -8,10 +8,10 @@ ghost use Rattle.dc_tree.specs.Findings.{least_with_all};
 ghost use Rattle.dc_tree.specs.Statements.{dimension_of};
 ghost use Rattle.dc_tree.specs.Syntax.{tree};
 
-use dc_uses::{note_uses, whole_constant};
 use dc_sorts::Standing;
 use dc_text::{DcList, NoMemory};
 use dc_tree::{Bound, Expr, LeastFinding};
+use dc_uses::{note_uses, whole_constant};
 use std::alloc::Global;
 
 /// The greatest rank of a variable.
@@ -30,7 +30,8 @@ pub(crate) fn told(value: Option<i64>, other: i64) -> i64
 }
 
 fn low_of(alloc: Global, standing: &Standing, low: &Option<Expr>) -> Result<i64, NoMemory>
-    ensures { IfOk result (λ made. made ≡ low_of (standing_of standing.now) (option_map tree low.now)) }
+    ensures { IfOk result (λ made. made
+        ≡ low_of (standing_of standing.now) (option_map tree low.now)) }
 {
     match low {
         Some(expr) => Ok(told(whole_constant(alloc, standing, expr)?, 1)),
@@ -44,12 +45,9 @@ fn high_of(alloc: Global, standing: &Standing, high: &Expr) -> Result<i64, NoMem
     Ok(told(whole_constant(alloc, standing, high)?, 0))
 }
 
-fn bounds_of(
-    alloc: Global,
-    standing: &Standing,
-    bound: &Bound,
-) -> Result<(i64, i64), NoMemory>
-    ensures { IfOk result (λ made. made ≡ bounds_of (standing_of standing.now) (dimension_of bound.now)) }
+fn bounds_of(alloc: Global, standing: &Standing, bound: &Bound) -> Result<(i64, i64), NoMemory>
+    ensures { IfOk result (λ made. made
+        ≡ bounds_of (standing_of standing.now) (dimension_of bound.now)) }
 {
     let low = low_of(alloc, standing, &bound.low)?;
     let high = high_of(alloc, standing, &bound.high)?;
@@ -63,7 +61,8 @@ pub(crate) fn all_bounds(
     standing: &Standing,
     bounds: &[Bound],
 ) -> Result<DcList<(i64, i64)>, NoMemory>
-    ensures { IfOk result (λ made. made ≡ all_bounds (standing_of standing.now) (map dimension_of bounds.now)) }
+    ensures { IfOk result (λ made. made
+        ≡ all_bounds (standing_of standing.now) (map dimension_of bounds.now)) }
 {
     let mut made = DcList::new(alloc);
     for bound in bounds {
@@ -73,7 +72,8 @@ pub(crate) fn all_bounds(
 }
 
 fn is_told(alloc: Global, standing: &Standing, expr: &Expr) -> Result<bool, NoMemory>
-    ensures { IfOk result (λ is. is ≡ is_some (whole_constant (standing_of standing.now) (tree expr.now))) }
+    ensures { IfOk result (λ is. is
+        ≡ is_some (whole_constant (standing_of standing.now) (tree expr.now))) }
 {
     Ok(whole_constant(alloc, standing, expr)?.is_some())
 }
@@ -86,7 +86,9 @@ fn note_bound(
     expr: &Expr,
     found: &mut LeastFinding,
 ) -> Result<(), NoMemory>
-    ensures { OnOk result (found.new ≡ least_with_all found.old (bound_findings (standing_of standing.now) line (tree expr.now))) }
+    ensures { OnOk result (found.new
+        ≡ least_with_all found.old (bound_findings (standing_of standing.now) line
+        (tree expr.now))) }
 {
     note_uses(alloc, standing, line, expr, found)?;
     let is_told = is_told(alloc, standing, expr)?;
@@ -102,7 +104,9 @@ fn note_low(
     low: &Option<Expr>,
     found: &mut LeastFinding,
 ) -> Result<(), NoMemory>
-    ensures { OnOk result (found.new ≡ least_with_all found.old (low_findings (standing_of standing.now) line (option_map tree low.now))) }
+    ensures { OnOk result (found.new
+        ≡ least_with_all found.old (low_findings (standing_of standing.now) line
+        (option_map tree low.now))) }
 {
     match low {
         Some(expr) => note_bound(alloc, standing, line, expr, found),
@@ -119,7 +123,9 @@ fn note_each(
     bounds: &[Bound],
     found: &mut LeastFinding,
 ) -> Result<(), NoMemory>
-    ensures { OnOk result (found.new ≡ least_with_all found.old (each_dimension (standing_of standing.now) line (map dimension_of bounds.now))) }
+    ensures { OnOk result (found.new
+        ≡ least_with_all found.old (each_dimension (standing_of standing.now) line
+        (map dimension_of bounds.now))) }
 {
     for bound in bounds {
         note_low(alloc, standing, line, &bound.low, found)?;
@@ -137,7 +143,9 @@ pub(crate) fn note_bounds(
     bounds: &[Bound],
     found: &mut LeastFinding,
 ) -> Result<(), NoMemory>
-    ensures { OnOk result (found.new ≡ least_with_all found.old (all_dimensions (standing_of standing.now) line (map dimension_of bounds.now))) }
+    ensures { OnOk result (found.new
+        ≡ least_with_all found.old (all_dimensions (standing_of standing.now) line
+        (map dimension_of bounds.now))) }
 {
     note_each(alloc, standing, line, bounds, found)?;
     found.note_if(bounds.len() > GREATEST_RANK, 24, line);
@@ -151,10 +159,7 @@ pub(crate) fn is_array(bounds: &[(i64, i64)]) -> bool
 }
 
 /// The bounds of an attribute for one of many names.
-pub(crate) fn shared(
-    alloc: Global,
-    bounds: &[(i64, i64)],
-) -> Result<DcList<(i64, i64)>, NoMemory>
+pub(crate) fn shared(alloc: Global, bounds: &[(i64, i64)]) -> Result<DcList<(i64, i64)>, NoMemory>
     ensures { IfOk result (λ made. made ≡ shared bounds.now) }
 {
     let kept = bounds.len().min(MOST_KEPT);

@@ -2,6 +2,7 @@
 
 ghost use Rattle.std.specs.Prelude.{◌≡◌, IfOk, OnOk, map, option_map};
 ghost use Rattle.dc_declare.specs.Entities.{bounds_in, own_findings, intent_or_in, entry_of, entry_findings, total_after, is_too_much, total_findings, initial_of, role_of, after_entry, after_entity, made_findings, found_entry, entity_findings, after_entities, entities_findings};
+ghost use Rattle.dc_declare.specs.declared.entry.Nature.{Nature};
 ghost use Rattle.dc_declare.specs.Bounds.{is_array};
 ghost use Rattle.dc_declare.specs.Tables.{declaring};
 ghost use Rattle.dc_declare.specs.Totals.{size_of};
@@ -31,7 +32,8 @@ fn bounds_in(
     given: &Given,
     own: &Option<DcList<Bound>>,
 ) -> Result<DcList<(i64, i64)>, NoMemory>
-    ensures { IfOk result (λ made. made ≡ bounds_in (standing_of standing.now) given.now (option_map (map dimension_of) own.now)) }
+    ensures { IfOk result (λ made. made
+        ≡ bounds_in (standing_of standing.now) given.now (option_map (map dimension_of) own.now)) }
 {
     match own {
         Some(bounds) => all_bounds(alloc, standing, bounds.as_slice()),
@@ -47,7 +49,9 @@ fn note_own(
     own: &Option<DcList<Bound>>,
     found: &mut LeastFinding,
 ) -> Result<(), NoMemory>
-    ensures { OnOk result (found.new ≡ least_with_all found.old (own_findings (standing_of standing.now) line (option_map (map dimension_of) own.now))) }
+    ensures { OnOk result (found.new
+        ≡ least_with_all found.old (own_findings (standing_of standing.now) line (option_map
+        (map dimension_of) own.now))) }
 {
     match own {
         Some(bounds) => note_bounds(alloc, standing, line, bounds.as_slice(), found),
@@ -72,7 +76,8 @@ fn entry_of(
     given: &Given,
     entity: &Entity,
 ) -> Result<Entry, NoMemory>
-    ensures { IfOk result (λ entry. entry ≡ entry_of heading.now (standing_of standing.now) given.now (declared_of entity.now)) }
+    ensures { IfOk result (λ entry. entry
+        ≡ entry_of heading.now (standing_of standing.now) given.now (declared_of entity.now)) }
 {
     let nature = nature_of(heading, given.constant, entity.name.as_bytes())?;
     let bounds = bounds_in(alloc, standing, given, &entity.bounds)?;
@@ -94,7 +99,9 @@ fn note_entry(
     entity: &Entity,
     found: &mut LeastFinding,
 ) -> Result<(), NoMemory>
-    ensures { OnOk result (found.new ≡ least_with_all found.old (entry_findings (standing_of standing.now) line given.now (declared_of entity.now))) }
+    ensures { OnOk result (found.new
+        ≡ least_with_all found.old (entry_findings (standing_of standing.now) line given.now
+        (declared_of entity.now))) }
 {
     note_own(alloc, standing, line, &entity.bounds, found)?;
     note_initial(alloc, standing, line, given.form, &entity.init, found)
@@ -116,18 +123,39 @@ fn is_too_much(unit: u32, total: u32, entry: &Entry) -> bool
     is_variable(entry.nature) && is_over(unit, total)
 }
 
-fn initial_of(
+fn filled_in(
     alloc: Global,
     over: bool,
     init: &Init,
     bounds: &[(i64, i64)],
     values: DcList<i64>,
 ) -> Result<DcList<i64>, NoMemory>
-    ensures { IfOk result (λ made. made ≡ filled over (is_array bounds.now) (size_of bounds.now) (initial init.now) values) }
+    ensures { IfOk result (λ made. made
+        ≡ filled over (is_array bounds.now) (size_of bounds.now) (initial init.now) values) }
 {
     let array = is_array(bounds);
     let size = size_of(bounds);
     filled(alloc, over, array, size, init, values)
+}
+
+/// The initial values of a variable with these bounds.
+fn initial_of(
+    alloc: Global,
+    unit: u32,
+    total: u32,
+    init: &Init,
+    bounds: &[(i64, i64)],
+    values: DcList<i64>,
+) -> Result<DcList<i64>, NoMemory>
+    ensures { IfOk result (λ made. made
+        ≡ initial_of unit total (initial init.now)
+        (record { nature = Nature.Variable; bounds = bounds.now; values = values })) }
+{
+    if unit == 0 {
+        filled_in(alloc, is_over(unit, total), init, bounds, values)
+    } else {
+        Ok(DcList::new(alloc))
+    }
 }
 
 /// The role of a name with which the variables of the unit have so many elements.
@@ -142,7 +170,11 @@ fn role_of(
     ensures { IfOk result (λ role. role ≡ role_of unit total given.now (initial init.now) entry) }
 {
     let ElementType { logical, kind } = given.form;
-    let Entry { nature, bounds, values } = entry;
+    let Entry {
+        nature,
+        bounds,
+        values,
+    } = entry;
     Ok(match nature {
         Nature::Dummy(place) => Role::Dummy {
             place,
@@ -157,8 +189,7 @@ fn role_of(
             value: first_value(values.as_slice()),
         },
         Nature::Variable => {
-            let over = is_over(unit, total);
-            let initial = initial_of(alloc, over, init, bounds.as_slice(), values)?;
+            let initial = initial_of(alloc, unit, total, init, bounds.as_slice(), values)?;
             Role::Variable {
                 logical,
                 kind,
@@ -180,7 +211,9 @@ fn note_found(
     entry: &Entry,
     found: &mut LeastFinding,
 )
-    ensures { found.new ≡ least_with_all found.old (made_findings line unit total given.now (declared_of entity.now) entry.now) }
+    ensures { found.new
+        ≡ least_with_all found.old (made_findings line unit total given.now
+        (declared_of entity.now) entry.now) }
 {
     let bounds = entry.bounds.as_slice();
     let array = is_array(bounds);
@@ -202,9 +235,14 @@ fn declare_entry(
     scan: &mut Scan,
     found: &mut LeastFinding,
 ) -> Result<(), NoMemory>
-    requires { entry ≡ entry_of heading.now (declaring scan.old.symbols heading.now.unit) given.now (declared_of entity.now) }
-    ensures scan { OnOk result (scan.new ≡ after_entry heading.now.unit scan.old given.now (declared_of entity.now) entry) }
-    ensures findings { OnOk result (found.new ≡ least_with_all found.old (found_entry heading.now.unit line scan.old given.now (declared_of entity.now) entry)) }
+    requires { entry
+        ≡ entry_of heading.now (declaring scan.old.symbols heading.now.unit) given.now
+        (declared_of entity.now) }
+    ensures scan { OnOk result (scan.new
+        ≡ after_entry heading.now.unit scan.old given.now (declared_of entity.now) entry) }
+    ensures findings { OnOk result (found.new
+        ≡ least_with_all found.old (found_entry heading.now.unit line scan.old given.now
+        (declared_of entity.now) entry)) }
 {
     let unit = heading.unit;
     let total = total_after(scan.elements, &entry);
@@ -231,8 +269,11 @@ fn declare_entity(
     scan: &mut Scan,
     found: &mut LeastFinding,
 ) -> Result<(), NoMemory>
-    ensures scan { OnOk result (scan.new ≡ after_entity heading.now scan.old given.now (declared_of entity.now)) }
-    ensures findings { OnOk result (found.new ≡ least_with_all found.old (entity_findings heading.now line scan.old given.now (declared_of entity.now))) }
+    ensures scan { OnOk result (scan.new
+        ≡ after_entity heading.now scan.old given.now (declared_of entity.now)) }
+    ensures findings { OnOk result (found.new
+        ≡ least_with_all found.old (entity_findings heading.now line scan.old given.now
+        (declared_of entity.now))) }
 {
     let standing = declaring(&scan.symbols, heading.unit);
     note_entry(alloc, &standing, line, given, entity, found)?;
@@ -251,8 +292,11 @@ pub(crate) fn declare_entities(
     scan: &mut Scan,
     found: &mut LeastFinding,
 ) -> Result<(), NoMemory>
-    ensures scan { OnOk result (scan.new ≡ after_entities heading.now scan.old given.now (map declared_of entities.now)) }
-    ensures findings { OnOk result (found.new ≡ least_with_all found.old (entities_findings heading.now line scan.old given.now (map declared_of entities.now))) }
+    ensures scan { OnOk result (scan.new
+        ≡ after_entities heading.now scan.old given.now (map declared_of entities.now)) }
+    ensures findings { OnOk result (found.new
+        ≡ least_with_all found.old (entities_findings heading.now line scan.old given.now
+        (map declared_of entities.now))) }
 {
     for entity in entities {
         declare_entity(alloc, heading, line, given, entity, scan, found)?;

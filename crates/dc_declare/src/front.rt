@@ -25,7 +25,8 @@ fn given_in(
     spec: &TypeSpec,
     attrs: &[Attr],
 ) -> Result<Given, NoMemory>
-    ensures { IfOk result (λ given. given ≡ given_in symbols.now unit (type_form spec.now) (map attribute attrs.now)) }
+    ensures { IfOk result (λ given. given
+        ≡ given_in symbols.now unit (type_form spec.now) (map attribute attrs.now)) }
 {
     let standing = declaring(symbols, unit);
     let form = type_of(alloc, &standing, spec)?;
@@ -42,7 +43,9 @@ fn note_given(
     attrs: &[Attr],
     found: &mut LeastFinding,
 ) -> Result<(), NoMemory>
-    ensures { OnOk result (found.new ≡ least_with_all found.old (given_findings symbols.now unit line (type_form spec.now) (map attribute attrs.now))) }
+    ensures { OnOk result (found.new
+        ≡ least_with_all found.old (given_findings symbols.now unit line (type_form spec.now)
+        (map attribute attrs.now))) }
 {
     let standing = declaring(symbols, unit);
     note_type(alloc, &standing, line, spec, found)?;
@@ -57,8 +60,11 @@ fn declare_statement(
     scan: &mut Scan,
     found: &mut LeastFinding,
 ) -> Result<(), NoMemory>
-    ensures scan { OnOk result (scan.new ≡ after_statement heading.now scan.old (statement lined.now.stmt)) }
-    ensures findings { OnOk result (found.new ≡ least_with_all found.old (statement_findings heading.now scan.old lined.now.line (statement lined.now.stmt))) }
+    ensures scan { OnOk result (scan.new
+        ≡ after_statement heading.now scan.old (statement lined.now.stmt)) }
+    ensures findings { OnOk result (found.new
+        ≡ least_with_all found.old (statement_findings heading.now scan.old lined.now.line
+        (statement lined.now.stmt))) }
 {
     let line = lined.line;
     let unit = heading.unit;
@@ -80,7 +86,15 @@ fn declare_statement(
             let attrs = attrs.as_slice();
             note_given(alloc, line, &scan.symbols, unit, spec, attrs, found)?;
             let given = given_in(alloc, &scan.symbols, unit, spec, attrs)?;
-            declare_entities(alloc, heading, line, &given, entities.as_slice(), scan, found)
+            declare_entities(
+                alloc,
+                heading,
+                line,
+                &given,
+                entities.as_slice(),
+                scan,
+                found,
+            )
         }
         _ => Ok(()),
     }
@@ -95,8 +109,10 @@ fn declare_front(
     scan: &mut Scan,
     found: &mut LeastFinding,
 ) -> Result<(), NoMemory>
-    ensures scan { OnOk result (scan.new ≡ after_front heading.now scan.old (map line_of front.now)) }
-    ensures findings { OnOk result (found.new ≡ least_with_all found.old (front_findings heading.now scan.old (map line_of front.now))) }
+    ensures scan { OnOk result (scan.new
+        ≡ after_front heading.now scan.old (map line_of front.now)) }
+    ensures findings { OnOk result (found.new
+        ≡ least_with_all found.old (front_findings heading.now scan.old (map line_of front.now))) }
 {
     for lined in front {
         declare_statement(alloc, heading, lined, scan, found)?;
@@ -114,8 +130,11 @@ pub(crate) fn declare_unit(
     symbols: Symbols,
     found: &mut LeastFinding,
 ) -> Result<Symbols, NoMemory>
-    ensures symbols { IfOk result (λ made. made ≡ symbols_after heading.now symbols (map line_of front.now)) }
-    ensures findings { OnOk result (found.new ≡ least_with_all found.old (front_findings heading.now (scan_of symbols) (map line_of front.now))) }
+    ensures symbols { IfOk result (λ made. made
+        ≡ symbols_after heading.now symbols (map line_of front.now)) }
+    ensures findings { OnOk result (found.new
+        ≡ least_with_all found.old (front_findings heading.now (scan_of symbols)
+        (map line_of front.now))) }
 {
     let mut scan = Scan {
         symbols,

@@ -39,7 +39,8 @@ fn add_attribute(
     attr: &Attr,
     given: &mut Given,
 ) -> Result<(), NoMemory>
-    ensures { OnOk result (given.new ≡ with_attribute (standing_of standing.now) given.old (attribute attr.now)) }
+    ensures { OnOk result (given.new
+        ≡ with_attribute (standing_of standing.now) given.old (attribute attr.now)) }
 {
     match attr {
         Attr::Parameter => given.constant = true,
@@ -59,7 +60,8 @@ pub(crate) fn given_with(
     form: ElementType,
     attrs: &[Attr],
 ) -> Result<Given, NoMemory>
-    ensures { IfOk result (λ given. given ≡ with_attributes (standing_of standing.now) (plainly form) (map attribute attrs.now)) }
+    ensures { IfOk result (λ given. given
+        ≡ with_attributes (standing_of standing.now) (plainly form) (map attribute attrs.now)) }
 {
     let mut given = plainly(alloc, form);
     for attr in attrs {
@@ -76,7 +78,9 @@ fn note_attribute(
     attr: &Attr,
     found: &mut LeastFinding,
 ) -> Result<(), NoMemory>
-    ensures { OnOk result (found.new ≡ least_with_all found.old (attribute_findings (standing_of standing.now) line (attribute attr.now))) }
+    ensures { OnOk result (found.new
+        ≡ least_with_all found.old (attribute_findings (standing_of standing.now) line
+        (attribute attr.now))) }
 {
     match attr {
         Attr::Dimension(bounds) => note_bounds(alloc, standing, line, bounds.as_slice(), found),
@@ -93,7 +97,9 @@ pub(crate) fn note_attributes(
     attrs: &[Attr],
     found: &mut LeastFinding,
 ) -> Result<(), NoMemory>
-    ensures { OnOk result (found.new ≡ least_with_all found.old (each_attribute (standing_of standing.now) line (map attribute attrs.now))) }
+    ensures { OnOk result (found.new
+        ≡ least_with_all found.old (each_attribute (standing_of standing.now) line
+        (map attribute attrs.now))) }
 {
     for attr in attrs {
         note_attribute(alloc, standing, line, attr, found)?;

@@ -58,16 +58,19 @@ impl Names {
         ensures ok { OnOk result (self.new ≡ self.old ++ name ∷ []) }
         ensures err { OnErr result (self.new ≡ self.old) }
     {
-        self.table.push(alloc, Symbol {
-            scope: ONLY_SCOPE,
-            name,
-            role: Role::Dummy {
-                place: 0,
-                logical: false,
-                kind: Kind::K4,
-                intent: Intent::Into,
+        self.table.push(
+            alloc,
+            Symbol {
+                scope: ONLY_SCOPE,
+                name,
+                role: Role::Dummy {
+                    place: 0,
+                    logical: false,
+                    kind: Kind::K4,
+                    intent: Intent::Into,
+                },
             },
-        })
+        )
     }
 
     /// Adds a name, where it isn't there yet.
@@ -91,7 +94,8 @@ pub(crate) fn gather(
     found: &mut LeastFinding,
 ) -> Result<(), NoMemory>
     ensures names { OnOk result (gathered.new ≡ each_once gathered.old names.now) }
-    ensures findings { OnOk result (found.new ≡ least_with_all found.old (twice_findings line gathered.old names.now)) }
+    ensures findings { OnOk result (found.new
+        ≡ least_with_all found.old (twice_findings line gathered.old names.now)) }
 {
     for name in names {
         found.note_if(gathered.holds(name.as_bytes()), 19, line);

@@ -47,11 +47,7 @@ fn narrowed(place: Option<usize>) -> Result<Option<u32>, NoMemory>
 }
 
 /// What a name is in a unit.
-pub(crate) fn nature_of(
-    heading: &Heading,
-    constant: bool,
-    name: &[u8],
-) -> Result<Nature, NoMemory>
+pub(crate) fn nature_of(heading: &Heading, constant: bool, name: &[u8]) -> Result<Nature, NoMemory>
     ensures { IfOk result (λ nature. nature ≡ nature_of heading.now constant name.now) }
 {
     if heading.unit == 0 {
@@ -81,7 +77,8 @@ pub(crate) fn note_nature(
     valued: bool,
     found: &mut LeastFinding,
 )
-    ensures { found.new ≡ least_with_all found.old (nature_findings line nature given.now array valued) }
+    ensures { found.new
+        ≡ least_with_all found.old (nature_findings line nature given.now array valued) }
 {
     match nature {
         Nature::Dummy(_) => {

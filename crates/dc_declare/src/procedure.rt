@@ -46,7 +46,8 @@ fn type_after(
     form: Option<ElementType>,
     prefix: &Prefix,
 ) -> Result<Option<ElementType>, NoMemory>
-    ensures { IfOk result (λ made. made ≡ type_after (standing_of standing.now) form (prefixed prefix.now)) }
+    ensures { IfOk result (λ made. made
+        ≡ type_after (standing_of standing.now) form (prefixed prefix.now)) }
 {
     match prefix {
         Prefix::Typed(spec) => Ok(Some(type_of(alloc, standing, spec)?)),
@@ -61,7 +62,8 @@ fn type_behind(
     standing: &Standing,
     prefixes: &[Prefix],
 ) -> Result<Option<ElementType>, NoMemory>
-    ensures { IfOk result (λ made. made ≡ type_behind (standing_of standing.now) None (map prefixed prefixes.now)) }
+    ensures { IfOk result (λ made. made
+        ≡ type_behind (standing_of standing.now) None (map prefixed prefixes.now)) }
 {
     let mut form = None;
     for prefix in prefixes {
@@ -78,7 +80,9 @@ fn note_prefix(
     prefix: &Prefix,
     found: &mut LeastFinding,
 ) -> Result<(), NoMemory>
-    ensures { OnOk result (found.new ≡ least_with_all found.old (prefix_findings (standing_of standing.now) line (prefixed prefix.now))) }
+    ensures { OnOk result (found.new
+        ≡ least_with_all found.old (prefix_findings (standing_of standing.now) line
+        (prefixed prefix.now))) }
 {
     match prefix {
         Prefix::Typed(spec) => note_type(alloc, standing, line, spec, found),
@@ -94,7 +98,9 @@ fn note_prefixes(
     prefixes: &[Prefix],
     found: &mut LeastFinding,
 ) -> Result<(), NoMemory>
-    ensures { OnOk result (found.new ≡ least_with_all found.old (each_prefix (standing_of standing.now) line (map prefixed prefixes.now))) }
+    ensures { OnOk result (found.new
+        ≡ least_with_all found.old (each_prefix (standing_of standing.now) line
+        (map prefixed prefixes.now))) }
 {
     for prefix in prefixes {
         note_prefix(alloc, standing, line, prefix, found)?;
@@ -123,8 +129,10 @@ fn declare_name(
     symbols: &mut Symbols,
     found: &mut LeastFinding,
 ) -> Result<(), NoMemory>
-    ensures symbols { OnOk result (symbols.new ≡ with_procedure number symbols.old function name.now) }
-    ensures findings { OnOk result (found.new ≡ least_with_all found.old (taken_findings line symbols.old 0 name.now)) }
+    ensures symbols { OnOk result (symbols.new
+        ≡ with_procedure number symbols.old function name.now) }
+    ensures findings { OnOk result (found.new
+        ≡ least_with_all found.old (taken_findings line symbols.old 0 name.now)) }
 {
     let role = procedure_role(function, number);
     let name = name.copy(alloc)?;
@@ -157,14 +165,17 @@ fn declare_result(
         return Ok(());
     }
     let name = name.copy(alloc)?;
-    symbols.push(alloc, Symbol {
-        scope: number,
-        name,
-        role: Role::Result {
-            logical: form.logical,
-            kind: form.kind,
+    symbols.push(
+        alloc,
+        Symbol {
+            scope: number,
+            name,
+            role: Role::Result {
+                logical: form.logical,
+                kind: form.kind,
+            },
         },
-    })
+    )
 }
 
 /// Notes where the result has the name of a dummy.
@@ -189,8 +200,11 @@ fn declare_head(
 ) -> Result<Heading, NoMemory>
     requires { 0 < number }
     ensures heading { IfOk result (λ heading. heading ≡ heading_of number (statement head.now)) }
-    ensures symbols { OnOk result (symbols.new ≡ with_heading number symbols.old (statement head.now)) }
-    ensures findings { OnOk result (found.new ≡ least_with_all found.old (heading_findings number symbols.old line (statement head.now))) }
+    ensures symbols { OnOk result (symbols.new
+        ≡ with_heading number symbols.old (statement head.now)) }
+    ensures findings { OnOk result (found.new
+        ≡ least_with_all found.old (heading_findings number symbols.old line
+        (statement head.now))) }
 {
     let mut gathered = Names::new(alloc);
     let Stmt::Procedure {
@@ -231,8 +245,11 @@ fn form_in_front(
     symbols: &Symbols,
     found: &mut LeastFinding,
 ) -> Result<Option<ElementType>, NoMemory>
-    ensures form { IfOk result (λ made. made ≡ type_behind (declaring symbols.now number) None (map prefixed prefixes.now)) }
-    ensures findings { OnOk result (found.new ≡ least_with_all found.old (each_prefix (declaring symbols.now number) line (map prefixed prefixes.now))) }
+    ensures form { IfOk result (λ made. made
+        ≡ type_behind (declaring symbols.now number) None (map prefixed prefixes.now)) }
+    ensures findings { OnOk result (found.new
+        ≡ least_with_all found.old (each_prefix (declaring symbols.now number) line
+        (map prefixed prefixes.now))) }
 {
     let standing = declaring(symbols, number);
     note_prefixes(alloc, &standing, line, prefixes, found)?;
@@ -248,7 +265,8 @@ fn note_dummies(
     dummies: &[DcText],
     found: &mut LeastFinding,
 )
-    ensures { found.new ≡ least_with_all found.old (dummy_findings number symbols.now line dummies.now) }
+    ensures { found.new
+        ≡ least_with_all found.old (dummy_findings number symbols.now line dummies.now) }
 {
     for name in dummies {
         found.note_if(!is_taken(symbols, number, name.as_bytes()), 26, line);
@@ -266,7 +284,9 @@ fn note_untyped(
     given: &Option<DcText>,
     found: &mut LeastFinding,
 )
-    ensures { found.new ≡ least_with_all found.old (untyped_findings number symbols.now line (result_name function name.now given.now)) }
+    ensures { found.new
+        ≡ least_with_all found.old (untyped_findings number symbols.now line
+        (result_name function name.now given.now)) }
 {
     if !function {
         return;
@@ -281,7 +301,8 @@ fn note_untyped(
 /// Notes what the first line asks of the declarations behind it.
 #[tactic(auto, using(dc_tree::proofs::Findings::notes))]
 fn note_asked(number: u32, symbols: &Symbols, line: u32, head: &Stmt, found: &mut LeastFinding)
-    ensures { found.new ≡ least_with_all found.old (asked_findings number symbols.now line (statement head.now)) }
+    ensures { found.new
+        ≡ least_with_all found.old (asked_findings number symbols.now line (statement head.now)) }
 {
     if let Stmt::Procedure {
         prefix: _,
@@ -307,8 +328,11 @@ pub(crate) fn declare_procedure(
     found: &mut LeastFinding,
 ) -> Result<Symbols, NoMemory>
     requires { 0 < number }
-    ensures symbols { IfOk result (λ made. made ≡ after_procedure number symbols (subprogram_of procedure.now)) }
-    ensures findings { OnOk result (found.new ≡ least_with_all found.old (procedure_findings number symbols (subprogram_of procedure.now))) }
+    ensures symbols { IfOk result (λ made. made
+        ≡ after_procedure number symbols (subprogram_of procedure.now)) }
+    ensures findings { OnOk result (found.new
+        ≡ least_with_all found.old (procedure_findings number symbols
+        (subprogram_of procedure.now))) }
 {
     let line = procedure.head.line;
     let head = &procedure.head.stmt;

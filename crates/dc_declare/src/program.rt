@@ -41,8 +41,11 @@ fn declare_procedures(
     mut symbols: Symbols,
     found: &mut LeastFinding,
 ) -> Result<Symbols, NoMemory>
-    ensures symbols { IfOk result (λ made. made ≡ after_procedures 1 symbols (map subprogram_of procedures.now)) }
-    ensures findings { OnOk result (found.new ≡ least_with_all found.old (procedures_findings 1 symbols (map subprogram_of procedures.now))) }
+    ensures symbols { IfOk result (λ made. made
+        ≡ after_procedures 1 symbols (map subprogram_of procedures.now)) }
+    ensures findings { OnOk result (found.new
+        ≡ least_with_all found.old (procedures_findings 1 symbols
+        (map subprogram_of procedures.now))) }
 {
     let mut number = 1;
     for procedure in procedures {
@@ -60,7 +63,8 @@ pub fn declare(
     found: &mut LeastFinding,
 ) -> Result<Symbols, NoMemory>
     ensures symbols { IfOk result (λ symbols. symbols ≡ symbols_of (source_of program.now)) }
-    ensures findings { OnOk result (found.new ≡ least_with_all found.old (declaration_findings (source_of program.now))) }
+    ensures findings { OnOk result (found.new
+        ≡ least_with_all found.old (declaration_findings (source_of program.now))) }
 {
     let heading = main_heading(alloc);
     let front = program.front.as_slice();

@@ -41,7 +41,8 @@ pub(crate) fn declare(
 ) -> Result<(), NoMemory>
     requires { IsTrue (is_sound symbol) }
     ensures symbols { OnOk result (symbols.new ≡ with_symbol symbols.old symbol) }
-    ensures findings { OnOk result (found.new ≡ least_with_all found.old (taken_findings line symbols.old symbol.scope symbol.name)) }
+    ensures findings { OnOk result (found.new
+        ≡ least_with_all found.old (taken_findings line symbols.old symbol.scope symbol.name)) }
 {
     if is_taken(symbols, symbol.scope, symbol.name.as_bytes()) {
         found.note(19, line);

@@ -7,11 +7,11 @@ ghost use Rattle.dc_tree.specs.Findings.{least_with_all};
 ghost use Rattle.dc_tree.specs.Statements.{type_form};
 ghost use Rattle.dc_tree.specs.Syntax.{tree};
 
-use dc_uses::{note_kind, note_uses, whole_constant};
 use dc_int::Kind;
 use dc_sorts::Standing;
 use dc_text::NoMemory;
 use dc_tree::{Expr, LeastFinding, TypeSpec};
+use dc_uses::{note_kind, note_uses, whole_constant};
 use std::alloc::Global;
 
 /// A type. A LOGICAL has kind `K4`.
@@ -37,7 +37,8 @@ fn kind_selected(
     standing: &Standing,
     selector: &Option<Expr>,
 ) -> Result<Kind, NoMemory>
-    ensures { IfOk result (λ kind. kind ≡ kind_selected (standing_of standing.now) (option_map tree selector.now)) }
+    ensures { IfOk result (λ kind. kind
+        ≡ kind_selected (standing_of standing.now) (option_map tree selector.now)) }
 {
     match selector {
         Some(expr) => Ok(kind_told(whole_constant(alloc, standing, expr)?)),
@@ -72,7 +73,9 @@ fn note_selector(
     selector: &Option<Expr>,
     found: &mut LeastFinding,
 ) -> Result<(), NoMemory>
-    ensures { OnOk result (found.new ≡ least_with_all found.old (selector_findings (standing_of standing.now) line (option_map tree selector.now))) }
+    ensures { OnOk result (found.new
+        ≡ least_with_all found.old (selector_findings (standing_of standing.now) line
+        (option_map tree selector.now))) }
 {
     let Some(expr) = selector else {
         return Ok(());
@@ -90,7 +93,9 @@ pub(crate) fn note_type(
     spec: &TypeSpec,
     found: &mut LeastFinding,
 ) -> Result<(), NoMemory>
-    ensures { OnOk result (found.new ≡ least_with_all found.old (type_findings (standing_of standing.now) line (type_form spec.now))) }
+    ensures { OnOk result (found.new
+        ≡ least_with_all found.old (type_findings (standing_of standing.now) line
+        (type_form spec.now))) }
 {
     match spec {
         TypeSpec::Logical => Ok(()),

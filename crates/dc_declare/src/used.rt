@@ -14,7 +14,8 @@ use std::alloc::Global;
 
 fn kind_named(name: &[u8]) -> Option<i64>
     ensures equal { result ≡ kind_named name.now }
-    ensures fits { MatchOption result (Unit {0}) (λ value. IsTrue (value_fits Kind.K4 false value)) }
+    ensures fits { MatchOption result (Unit {0}) (λ value. IsTrue
+        (value_fits Kind.K4 false value)) }
 {
     if name == b"int8".as_slice() {
         Some(1)
@@ -37,13 +38,9 @@ pub(crate) fn note_module(line: u32, name: &[u8], found: &mut LeastFinding)
     found.note_if(name != b"iso_fortran_env".as_slice(), 22, line);
 }
 
-fn add_kind(
-    alloc: Global,
-    unit: u32,
-    name: &DcText,
-    symbols: &mut Symbols,
-) -> Result<(), NoMemory>
-    ensures { OnOk result (symbols.new ≡ with_kind symbols.old unit name.now (kind_named name.now)) }
+fn add_kind(alloc: Global, unit: u32, name: &DcText, symbols: &mut Symbols) -> Result<(), NoMemory>
+    ensures { OnOk result (symbols.new
+        ≡ with_kind symbols.old unit name.now (kind_named name.now)) }
 {
     let Some(value) = kind_named(name.as_bytes()) else {
         return Ok(());
@@ -52,15 +49,18 @@ fn add_kind(
         return Ok(());
     }
     let name = name.copy(alloc)?;
-    symbols.push(alloc, Symbol {
-        scope: unit,
-        name,
-        role: Role::Constant {
-            logical: false,
-            kind: Kind::K4,
-            value,
+    symbols.push(
+        alloc,
+        Symbol {
+            scope: unit,
+            name,
+            role: Role::Constant {
+                logical: false,
+                kind: Kind::K4,
+                value,
+            },
         },
-    })
+    )
 }
 
 #[tactic(auto, using(dc_tree::proofs::Findings::notes))]
@@ -82,7 +82,8 @@ pub(crate) fn declare_used(
     found: &mut LeastFinding,
 ) -> Result<(), NoMemory>
     ensures symbols { OnOk result (symbols.new ≡ with_used symbols.old unit names.now) }
-    ensures findings { OnOk result (found.new ≡ least_with_all found.old (each_used line symbols.old unit names.now)) }
+    ensures findings { OnOk result (found.new
+        ≡ least_with_all found.old (each_used line symbols.old unit names.now)) }
 {
     for name in names {
         note_used(line, symbols, unit, name.as_bytes(), found);

@@ -1,7 +1,6 @@
 //! The values that declarations give.
 
 ghost use Rattle.std.specs.Prelude.{◌≡◌, ◌∷◌, [], IfOk, OnOk, if◌then◌else◌, is_some, length, map, replicate};
-
 ghost use Rattle.dc_declare.specs.Values.{stored, suits, taken_as, value_in, worth, value_findings, each_value, trees_in, values_in, initial_findings, is_filling, list_findings, first_value, filled, is_valued};
 ghost use Rattle.dc_int.specs.Reductions.{truth, number_of_truth};
 ghost use Rattle.dc_sorts.specs.Standing.{standing_of};
@@ -60,12 +59,18 @@ fn value_in(
     form: ElementType,
     expr: &Expr,
 ) -> Result<Option<i64>, NoMemory>
-    ensures { IfOk result (λ value. value ≡ value_in (standing_of standing.now) form (tree expr.now)) }
+    ensures { IfOk result (λ value. value
+        ≡ value_in (standing_of standing.now) form (tree expr.now)) }
 {
     Ok(taken_as(form, constant_of(alloc, standing, expr)?))
 }
 
-fn worth(alloc: Global, standing: &Standing, form: ElementType, expr: &Expr) -> Result<i64, NoMemory>
+fn worth(
+    alloc: Global,
+    standing: &Standing,
+    form: ElementType,
+    expr: &Expr,
+) -> Result<i64, NoMemory>
     ensures { IfOk result (λ value. value ≡ worth (standing_of standing.now) form (tree expr.now)) }
 {
     Ok(told(value_in(alloc, standing, form, expr)?, 0))
@@ -77,7 +82,8 @@ fn is_told(
     form: ElementType,
     expr: &Expr,
 ) -> Result<bool, NoMemory>
-    ensures { IfOk result (λ is. is ≡ is_some (value_in (standing_of standing.now) form (tree expr.now))) }
+    ensures { IfOk result (λ is. is
+        ≡ is_some (value_in (standing_of standing.now) form (tree expr.now))) }
 {
     Ok(value_in(alloc, standing, form, expr)?.is_some())
 }
@@ -91,7 +97,9 @@ fn note_value(
     expr: &Expr,
     found: &mut LeastFinding,
 ) -> Result<(), NoMemory>
-    ensures { OnOk result (found.new ≡ least_with_all found.old (value_findings (standing_of standing.now) line form (tree expr.now))) }
+    ensures { OnOk result (found.new
+        ≡ least_with_all found.old (value_findings (standing_of standing.now) line form
+        (tree expr.now))) }
 {
     note_uses(alloc, standing, line, expr, found)?;
     let is_told = is_told(alloc, standing, form, expr)?;
@@ -108,7 +116,9 @@ fn note_each(
     exprs: &[Expr],
     found: &mut LeastFinding,
 ) -> Result<(), NoMemory>
-    ensures { OnOk result (found.new ≡ least_with_all found.old (each_value (standing_of standing.now) line form (map tree exprs.now))) }
+    ensures { OnOk result (found.new
+        ≡ least_with_all found.old (each_value (standing_of standing.now) line form
+        (map tree exprs.now))) }
 {
     for expr in exprs {
         note_value(alloc, standing, line, form, expr, found)?;
@@ -126,14 +136,14 @@ pub(crate) fn note_initial(
     init: &Init,
     found: &mut LeastFinding,
 ) -> Result<(), NoMemory>
-    ensures { OnOk result (found.new ≡ least_with_all found.old (initial_findings (standing_of standing.now) line form (initial init.now))) }
+    ensures { OnOk result (found.new
+        ≡ least_with_all found.old (initial_findings (standing_of standing.now) line form
+        (initial init.now))) }
 {
     match init {
         Init::Absent => Ok(()),
         Init::Scalar(expr) => note_value(alloc, standing, line, form, expr, found),
-        Init::Listed(exprs) => {
-            note_each(alloc, standing, line, form, exprs.as_slice(), found)
-        }
+        Init::Listed(exprs) => { note_each(alloc, standing, line, form, exprs.as_slice(), found) }
     }
 }
 
@@ -144,7 +154,8 @@ fn worth_of_each(
     form: ElementType,
     exprs: &[Expr],
 ) -> Result<DcList<i64>, NoMemory>
-    ensures { IfOk result (λ made. made ≡ map (worth (standing_of standing.now) form) (map tree exprs.now)) }
+    ensures { IfOk result (λ made. made
+        ≡ map (worth (standing_of standing.now) form) (map tree exprs.now)) }
 {
     let mut made = DcList::new(alloc);
     for expr in exprs {
@@ -168,7 +179,8 @@ pub(crate) fn values_in(
     form: ElementType,
     init: &Init,
 ) -> Result<DcList<i64>, NoMemory>
-    ensures { IfOk result (λ made. made ≡ values_in (standing_of standing.now) form (initial init.now)) }
+    ensures { IfOk result (λ made. made
+        ≡ values_in (standing_of standing.now) form (initial init.now)) }
 {
     match init {
         Init::Absent => Ok(DcList::new(alloc)),
@@ -186,7 +198,8 @@ fn is_filling(array: bool, size: u32, count: usize) -> bool
 /// Notes where a list has more or fewer values than there are elements.
 #[tactic(auto, using(dc_tree::proofs::Findings::notes))]
 pub(crate) fn note_list(line: u32, array: bool, size: u32, init: &Init, found: &mut LeastFinding)
-    ensures { found.new ≡ least_with_all found.old (list_findings line array size (initial init.now)) }
+    ensures { found.new
+        ≡ least_with_all found.old (list_findings line array size (initial init.now)) }
 {
     if let Init::Listed(exprs) = init {
         found.note_if(!is_filling(array, size, exprs.len()), 25, line);

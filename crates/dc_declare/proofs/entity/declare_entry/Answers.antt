@@ -1,6 +1,6 @@
 use Rattle.std.proofs.Common.{◌≡◌, ap, ◌∙◌}
 use Rattle.dc_tree.specs.declared.symbols.Role as roles
-use Rattle.dc_tree.specs.Statements.{Name, declared_of, initial}
+use Rattle.dc_tree.specs.Statements.{Name, declared_of}
 use Rattle.dc_tree.specs.Symbols.{is_sound}
 use Rattle.dc_declare.specs.declared.entry.Entry.{Entry}
 use Rattle.dc_declare.specs.Entities.{entry_of, role_of}
@@ -19,6 +19,6 @@ declare-requires c =
     ap (λ (r : roles.Role). is_sound (symbol_with heading.unit c.in_ok-name.name r)) role
     ∙ ap
     (λ (n : Name). is_sound
-        (symbol_with heading.unit n (role_of heading.unit total given declared.initial (entry_of heading (declaring c.args.scan.now.symbols heading.unit) given declared))))
+    (symbol_with heading.unit n (role_of heading.unit total given declared.initial (entry_of heading (declaring c.args.scan.now.symbols heading.unit) given declared))))
     c.in_ok-name.ensures
     ∙ made-sound heading (declaring c.args.scan.now.symbols heading.unit) given declared total
