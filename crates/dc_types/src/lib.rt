@@ -4,7 +4,9 @@
 
 mod actions;
 mod blocks;
+mod callees;
 mod cases;
+mod checking;
 mod concurrents;
 mod expressions;
 mod fronts;
@@ -14,3 +16,5 @@ mod inner;
 mod naming;
 mod statements;
 mod targets;
+
+pub use checking::check_types;
