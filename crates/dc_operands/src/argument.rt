@@ -2,8 +2,9 @@
 
 use dc_sorts::Form;
 
-/// An argument or a subscript: whether `kind =` stands in front of it, its form, whether it is a name alone,
-/// whether it is a variable or an element of one, and whether that may not be defined where it stands.
+/// An argument or a subscript: whether `kind =` stands in front of it, its form, whether it is a
+/// name alone, whether it is a variable or an element of one, and whether that may not be defined
+/// where it stands.
 #[derive(Clone, Copy, Debug, PartialEq, Eq)]
 pub struct Argument {
     pub keyed: bool,

@@ -113,7 +113,8 @@ pub fn note_operands(
     expr: &Expr,
     found: &mut LeastFinding,
 ) -> Result<Known, NoMemory>
-    ensures known { IfOk result (λ known. known ≡ known_at (standing_of standing.now) (tree expr.now)) }
+    ensures known { IfOk result (λ known. known
+        ≡ known_at (standing_of standing.now) (tree expr.now)) }
     ensures findings { OnOk result (found.new ≡ least_with_all found.old
         (operand_findings (standing_of standing.now) line (tree expr.now))) }
 {

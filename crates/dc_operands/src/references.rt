@@ -49,7 +49,8 @@ pub fn note_subscripts(line: u32, arguments: &[Argument], found: &mut LeastFindi
 /// Notes that arguments don't fit the dummies, or may not be defined through them.
 #[tactic(auto, using(dc_tree::proofs::Findings::notes))]
 pub fn note_call(line: u32, dummies: &[Meaning], arguments: &[Argument], found: &mut LeastFinding)
-    ensures { found.new ≡ least_with_all found.old (call_findings line dummies.now arguments.now) }
+    ensures { found.new ≡ least_with_all found.old
+        (call_findings line dummies.now arguments.now) }
 {
     found.note_if(!fit_all(dummies, arguments), 30, line);
     found.note_if(some_breaks_fixed(dummies, arguments), 31, line);
