@@ -10,10 +10,10 @@ use Rattle.dc_tree.specs.declared.symbols.Role as roles
 use Rattle.dc_tree.specs.declared.symbols.Symbol.{Symbol}
 use Rattle.dc_tree.specs.declared.token.Mark.{Mark}
 use Rattle.dc_tree.specs.declared.token.Suffix.{Suffix}
-use Rattle.dc_tree.specs.Blocks.{Line, Item, Items, plain, branch, select, loop, none, and_then, no_arms, arm, Subprogram, Source}
+use Rattle.dc_tree.specs.Blocks.{Line, Item, Items, plain, branch, select, loop, none, and_then, no_arms, arm, Source}
 use Rattle.dc_tree.specs.Findings.{finding}
-use Rattle.dc_tree.specs.Statements.{Name, TypeForm, integer, logical, Ranging, Statement, Target, Declared, absent, scalar, assign, fill, call, print, read, program_line, procedure_line, declare, if_then, if_action, continue, end_if, select_case, case, only, between, end_select, do_line, do_while, concurrent, end_do, act, end_line}
-use Rattle.dc_tree.specs.Syntax.{Tree, Args, number, truth, chars, name, refer, binary, no_args, arg}
+use Rattle.dc_tree.specs.Statements.{Name, TypeForm, integer, Ranging, Statement, Target, scalar, assign, fill, call, print, read, program_line, procedure_line, declare, if_then, if_action, continue, end_if, select_case, case, only, between, end_select, do_line, do_while, concurrent, end_do, act, end_line}
+use Rattle.dc_tree.specs.Syntax.{Tree, number, truth, chars, name, refer, binary, no_args, arg}
 use Rattle.dc_types.specs.Types.{items_findings, standing_in, type_findings}
 
 abbrev symbol : ℕ → Name → roles.Role → Symbol

@@ -1,6 +1,6 @@
 -- The rules that a single action breaks by what its expressions are, and by what it defines. After ISO/IEC
 -- 1539-1:2023, clauses 8.5.10, 9.5.3, 10.2.1.2, 11.1.7.2 and 15.5.2.
-use Rattle.std.specs.Prelude.{ℕ, Bool, false, not, List, [], ◌∷◌, ◌++◌, Option, Some, None, if◌then◌else◌}
+use Rattle.std.specs.Prelude.{ℕ, Bool, not, List, [], ◌∷◌, ◌++◌, Option, Some, None, if◌then◌else◌}
 use Rattle.std.specs.List.{list_all}
 use Rattle.dc_tree.specs.declared.fail.Refusal.{Refusal}
 use Rattle.dc_tree.specs.Findings.{finding_if}

@@ -1,6 +1,6 @@
 -- The rules that the headers of loops break by what their limits are, and which names stand inside of a loop. After
 -- ISO/IEC 1539-1:2023, clauses 11.1.7.2, 11.1.7.4.2, 11.1.7.5 and 19.4.
-use Rattle.std.specs.Prelude.{ℕ, Bool, true, false, ◌||◌, List, [], ◌∷◌, ◌++◌, map, bytes_eq, Option, Some, None, ℤ, if◌then◌else◌}
+use Rattle.std.specs.Prelude.{ℕ, Bool, List, [], ◌∷◌, ◌++◌, map, bytes_eq, Option, Some, None, ℤ, if◌then◌else◌}
 use Rattle.std.specs.List.{list_any}
 use Rattle.dc_int.specs.declared.kind.Kind.{Kind}
 use Rattle.dc_tree.specs.declared.fail.Refusal.{Refusal}

@@ -1,7 +1,7 @@
 -- The rules that a program breaks by what its expressions are, and by what it defines. The variable of a counted DO
 -- may not be defined in the loop, and the indexes of a DO CONCURRENT may not either. After ISO/IEC 1539-1:2023,
 -- clauses 7.4.3.1, 10.1.5, 10.2.1.2, 11.1, 15.5.2 and 16.9.
-use Rattle.std.specs.Prelude.{◌≡◌, ℕ, ◌+◌, Bool, not, nat_lt, List, [], ◌∷◌, ◌++◌, map, Option, Some, None, Result, Ok, Err, if◌then◌else◌}
+use Rattle.std.specs.Prelude.{◌≡◌, ℕ, ◌+◌, nat_lt, List, [], ◌∷◌, ◌++◌, map, Option, Some, None, Result, Ok, Err, if◌then◌else◌}
 use Rattle.dc_tree.specs.declared.fail.Fail.{Fail}
 use Rattle.dc_tree.specs.declared.fail.Refusal.{Refusal}
 use Rattle.dc_tree.specs.declared.symbols.Symbol.{Symbol}

@@ -99,7 +99,13 @@ fn note_subroutine(
         (subroutine_findings (standing_of standing.now) line text.now (map tree args.now))) }
 {
     let arguments = note_each(alloc, standing, line, args, found)?;
-    note_called(standing, line, standing.meaning(text), arguments.as_slice(), found);
+    note_called(
+        standing,
+        line,
+        standing.meaning(text),
+        arguments.as_slice(),
+        found,
+    );
     Ok(())
 }
 
@@ -131,10 +137,24 @@ pub(crate) fn note_action(
     match action {
         Action::Assign { left, right } => note_assign(alloc, standing, line, left, right, found),
         Action::Fill { name, items } => {
-            note_fill(alloc, standing, line, name.as_bytes(), items.as_slice(), found)
+            note_fill(
+                alloc,
+                standing,
+                line,
+                name.as_bytes(),
+                items.as_slice(),
+                found,
+            )
         }
         Action::Call { name, args, .. } => {
-            note_subroutine(alloc, standing, line, name.as_bytes(), args.as_slice(), found)
+            note_subroutine(
+                alloc,
+                standing,
+                line,
+                name.as_bytes(),
+                args.as_slice(),
+                found,
+            )
         }
         Action::Print { items, .. } => note_items(alloc, standing, line, items.as_slice(), found),
         Action::Read { items, .. } => note_targets(alloc, standing, line, items.as_slice(), found),

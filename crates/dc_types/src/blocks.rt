@@ -28,7 +28,7 @@ fn note_counted_block(
 ) -> Result<(), NoMemory>
     ensures { OnOk result (found.new ≡ least_with_all found.old
         (items_findings (in_counted (standing_of standing.now)
-            (option_map counted_ranging counted.now)) (items body.now))) }
+        (option_map counted_ranging counted.now)) (items body.now))) }
 {
     match counted {
         Some(counted) => {
@@ -60,8 +60,8 @@ fn note_concurrent_block(
 ) -> Result<(), NoMemory>
     ensures { OnOk result (found.new ≡ least_with_all found.old
         (items_findings (in_concurrent (standing_of standing.now)
-            (option_map type_form spec.now) (map index_ranging names.now) locality.now)
-            (items body.now))) }
+        (option_map type_form spec.now) (map index_ranging names.now) locality.now)
+        (items body.now))) }
 {
     let inner = in_concurrent(alloc, standing, spec, names, locality)?;
     let inside = inner.within(standing.symbols, standing.unit, standing.callees);
@@ -80,7 +80,7 @@ fn note_inside(
 ) -> Result<(), NoMemory>
     ensures { OnOk result (found.new ≡ least_with_all found.old
         (items_findings (inside (standing_of standing.now) (statement head.now))
-            (items body.now))) }
+        (items body.now))) }
 {
     match head {
         Stmt::Do { counted, .. } => note_counted_block(alloc, standing, body, counted, found),
@@ -113,7 +113,7 @@ fn note_arms(
 ) -> Result<(), NoMemory>
     ensures { OnOk result (found.new ≡ least_with_all found.old
         (arm_findings (standing_of standing.now) selector
-            (arms_from (map part_items arms.now)))) }
+        (arms_from (map part_items arms.now)))) }
 {
     for arm in arms {
         let head = &arm.head;

@@ -41,7 +41,13 @@ fn note_procedure(
 {
     let head = &procedure.head;
     note_declared(standing, head.line, &head.stmt, found);
-    note_unit(alloc, standing, procedure.front.as_slice(), &procedure.body, found)
+    note_unit(
+        alloc,
+        standing,
+        procedure.front.as_slice(),
+        &procedure.body,
+        found,
+    )
 }
 
 #[tactic(auto, using(dc_tree::proofs::Findings::notes))]
@@ -77,12 +83,18 @@ fn note_program(
     let procedures = program.procedures.as_slice();
     let callees = callees(alloc, symbols, procedures)?;
     let standing = standing_in(symbols, callees.as_slice(), 0);
-    note_unit(alloc, &standing, program.front.as_slice(), &program.body, found)?;
+    note_unit(
+        alloc,
+        &standing,
+        program.front.as_slice(),
+        &program.body,
+        found,
+    )?;
     note_procedures(alloc, symbols, callees.as_slice(), procedures, found)
 }
 
-/// Refuses a program by the first rule that it breaks on what its expressions are, and on what it defines.
-/// `symbols` are its declared names.
+/// Refuses a program by the first rule that it breaks on what its expressions are, and on what it
+/// defines. `symbols` are its declared names.
 pub fn check_types(alloc: Global, program: &Program, symbols: &Symbols) -> Result<(), Fail>
     ensures { Answers symbols.now (source_of program.now) result }
 {

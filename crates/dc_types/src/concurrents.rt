@@ -26,8 +26,8 @@ fn note_all_limits(
 ) -> Result<(), NoMemory>
     ensures { OnOk result (found.new ≡ least_with_all found.old
         (each_ranging_findings (in_concurrent (standing_of standing.now)
-            (option_map type_form spec.now) (map index_ranging names.now) []) line
-            (map index_ranging names.now))) }
+        (option_map type_form spec.now) (map index_ranging names.now) []) line
+        (map index_ranging names.now))) }
 {
     let inner = in_concurrent(alloc, standing, spec, names, &[])?;
     let inside = inner.within(standing.symbols, standing.unit, standing.callees);
@@ -46,8 +46,8 @@ fn note_masked(
 ) -> Result<(), NoMemory>
     ensures { OnOk result (found.new ≡ least_with_all found.old
         (mask_findings (in_concurrent (standing_of standing.now)
-            (option_map type_form spec.now) (map index_ranging names.now) locality.now) line
-            (option_map tree mask.now))) }
+        (option_map type_form spec.now) (map index_ranging names.now) locality.now) line
+        (option_map tree mask.now))) }
 {
     let inner = in_concurrent(alloc, standing, spec, names, locality)?;
     let inside = inner.within(standing.symbols, standing.unit, standing.callees);
@@ -68,7 +68,7 @@ pub(crate) fn note_header(
 ) -> Result<(), NoMemory>
     ensures { OnOk result (found.new ≡ least_with_all found.old
         (header_findings (standing_of standing.now) line (option_map type_form spec.now)
-            (map index_ranging names.now) (option_map tree mask.now) locality.now)) }
+        (map index_ranging names.now) (option_map tree mask.now) locality.now)) }
 {
     note_header_type(standing, line, spec, found);
     note_all_limits(alloc, standing, line, spec, names, found)?;

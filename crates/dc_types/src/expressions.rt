@@ -25,7 +25,8 @@ pub(crate) fn note_expression(
     expr: &Expr,
     found: &mut LeastFinding,
 ) -> Result<Form, NoMemory>
-    ensures form { IfOk result (λ form. form ≡ form_at (standing_of standing.now) (tree expr.now)) }
+    ensures form { IfOk result (λ form. form
+        ≡ form_at (standing_of standing.now) (tree expr.now)) }
     ensures findings { OnOk result (found.new ≡ least_with_all found.old
         (expression_findings (standing_of standing.now) line (tree expr.now))) }
 {

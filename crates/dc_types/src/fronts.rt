@@ -63,7 +63,7 @@ fn note_bounds(
 )
     ensures { found.new ≡ least_with_all found.old
         (bounds_numbers (standing_of standing.now) line
-            (option_map (map dimension_of) bounds.now)) }
+        (option_map (map dimension_of) bounds.now)) }
 {
     match bounds {
         Some(bounds) => note_dimensions(standing, line, bounds.as_slice(), found),
@@ -124,7 +124,7 @@ fn note_declaration(
 )
     ensures { found.new ≡ least_with_all found.old
         (declaration_numbers (standing_of standing.now) line (type_form spec.now)
-            (map attribute attrs.now) (map declared_of entities.now)) }
+        (map attribute attrs.now) (map declared_of entities.now)) }
 {
     note_type(standing, line, spec, found);
     note_attributes(standing, line, attrs, found);
@@ -132,12 +132,7 @@ fn note_declaration(
 }
 
 /// Notes the numbers in a declaration, or in front of a procedure.
-pub(crate) fn note_declared(
-    standing: &Standing,
-    line: u32,
-    stmt: &Stmt,
-    found: &mut LeastFinding,
-)
+pub(crate) fn note_declared(standing: &Standing, line: u32, stmt: &Stmt, found: &mut LeastFinding)
     ensures { found.new ≡ least_with_all found.old
         (declared_numbers (standing_of standing.now) line (statement stmt.now)) }
 {

@@ -17,12 +17,7 @@ use dc_tree::{Counted, Expr, Index, LeastFinding, TypeSpec};
 use std::alloc::Global;
 
 /// Notes a number in a type that isn't in the range of its kind.
-pub(crate) fn note_type(
-    standing: &Standing,
-    line: u32,
-    spec: &TypeSpec,
-    found: &mut LeastFinding,
-)
+pub(crate) fn note_type(standing: &Standing, line: u32, spec: &TypeSpec, found: &mut LeastFinding)
     ensures { found.new ≡ least_with_all found.old
         (type_numbers (standing_of standing.now) line (type_form spec.now)) }
 {
@@ -61,7 +56,8 @@ fn note_limits(
     found: &mut LeastFinding,
 ) -> Result<(), NoMemory>
     ensures { OnOk result (found.new ≡ least_with_all found.old
-        (limits_findings (standing_of standing.now) line (tree first.now) (tree last.now) (option_map tree step.now))) }
+        (limits_findings (standing_of standing.now) line (tree first.now) (tree last.now)
+        (option_map tree step.now))) }
 {
     note_limit(alloc, standing, line, first, found)?;
     note_limit(alloc, standing, line, last, found)?;
@@ -142,7 +138,8 @@ pub(crate) fn note_counted(
     found: &mut LeastFinding,
 ) -> Result<(), NoMemory>
     ensures { OnOk result (found.new ≡ least_with_all found.old
-        (counted_findings (standing_of standing.now) line (option_map counted_ranging counted.now))) }
+        (counted_findings (standing_of standing.now) line
+        (option_map counted_ranging counted.now))) }
 {
     match counted {
         Some(counted) => note_variable(alloc, standing, line, counted, found),

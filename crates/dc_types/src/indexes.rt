@@ -46,11 +46,7 @@ fn kind_named(alloc: Global, standing: &Standing, expr: &Expr) -> Result<Kind, N
     Ok(kind_of_value(known.value))
 }
 
-fn kind_selected(
-    alloc: Global,
-    standing: &Standing,
-    spec: &TypeSpec,
-) -> Result<Kind, NoMemory>
+fn kind_selected(alloc: Global, standing: &Standing, spec: &TypeSpec) -> Result<Kind, NoMemory>
     ensures { IfOk result (λ kind. Some kind
         ≡ typed_kind (standing_of standing.now) (Some (type_form spec.now))) }
 {
@@ -123,7 +119,7 @@ fn index_name(
 ) -> Result<IndexName, NoMemory>
     ensures { IfOk result (λ made. made
         ≡ index_name (standing_of standing.now).symbols (standing_of standing.now).unit typed
-            (index_ranging index.now)) }
+        (index_ranging index.now)) }
 {
     let name = index.name.copy(alloc)?;
     Ok(IndexName {

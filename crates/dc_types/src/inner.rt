@@ -27,8 +27,13 @@ impl Inner {
         unit: u32,
         callees: &'a [DcList<Meaning>],
     ) -> Standing<'a>
-        ensures { standing_of result ≡ record { symbols = symbols.now; unit = unit;
-            indexes = (self.now).indexes; counted = (self.now).counted; callees = callees.now } }
+        ensures { standing_of result ≡ record {
+          symbols = symbols.now;
+          unit = unit;
+          indexes = (self.now).indexes;
+          counted = (self.now).counted;
+          callees = callees.now;
+        } }
     {
         Standing {
             symbols,
@@ -51,7 +56,7 @@ pub(crate) fn in_concurrent(
     ensures { IfOk result (λ inner.
         with_loops (standing_of standing.now) inner.indexes inner.counted
         ≡ in_concurrent (standing_of standing.now) (option_map type_form spec.now)
-            (map index_ranging names.now) locality.now) }
+        (map index_ranging names.now) locality.now) }
 {
     let typed = typed_kind(alloc, standing, spec)?;
     let around = still_indexes(alloc, locality, standing.indexes)?;

@@ -1,5 +1,6 @@
-//! `check_types`: whether the expressions of a program are of the types that are asked, its numbers in the range
-//! of their kinds, its arguments those of what it calls, and only what may be defined is defined.
+//! `check_types`: whether the expressions of a program are of the types that are asked, its numbers
+//! in the range of their kinds, its arguments those of what it calls, and only what may be defined
+//! is defined.
 #![tactic(auto)]
 
 mod actions;
