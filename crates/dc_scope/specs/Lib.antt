@@ -1,3 +1,4 @@
+pub mod Answer
 pub mod Cases
 pub mod Deeds
 pub mod Headers
