@@ -1,3 +1,4 @@
+pub mod Apart
 pub mod Caps
 mod Examples
 pub mod Rules

@@ -26,7 +26,7 @@ use Rattle.dc_declare.specs.Values.{stored, suits, taken_as, worth, trees_in, is
 
 -- ---- values
 
-both : {a b : Bool} → a ≡ true → b ≡ true → (a && b) ≡ true
+pub both : {a b : Bool} → a ≡ true → b ≡ true → (a && b) ≡ true
 both one other = ap₂ (λ a b. a && b) one other
 
 abbrev fits : ElementType → ℤ → Bool
@@ -102,7 +102,7 @@ may_stand unit (Nature.Dummy place) = not (nat_eq unit 0)
 may_stand unit Nature.Result = not (nat_eq unit 0)
 may_stand unit other = true
 
-not-zero : (before : ℕ) → not (nat_eq (suc before) 0) ≡ true
+pub not-zero : (before : ℕ) → not (nat_eq (suc before) 0) ≡ true
 not-zero before = grind arith
 
 inside-stands : (before : ℕ) (nature : Nature) → may_stand (suc before) nature ≡ true

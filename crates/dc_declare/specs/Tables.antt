@@ -1,6 +1,6 @@
 -- The declared names as they grow, and where the expressions of declarations stand. After ISO/IEC 1539-1:2023,
 -- clause 19.3.1.
-use Rattle.std.specs.Prelude.{ℕ, List, [], ◌∷◌, ◌++◌, is_some, if◌then◌else◌, Bool}
+use Rattle.std.specs.Prelude.{ℕ, List, [], ◌∷◌, ◌++◌, is_some, if◌then◌else◌, Bool, true, not, ◌&&◌}
 use Rattle.dc_tree.specs.declared.fail.Refusal.{Refusal}
 use Rattle.dc_tree.specs.declared.symbols.Symbol.{Symbol}
 use Rattle.dc_tree.specs.declared.symbols.Role as roles
@@ -26,3 +26,8 @@ with_symbol symbols symbol = if is_taken symbols symbol.scope symbol.name then s
 -- K19: the scope has the name already.
 abbrev pub taken_findings : ℕ → List Symbol → ℕ → Name → List Refusal
 taken_findings line symbols scope name = finding_if (is_taken symbols scope name) 19 line
+
+-- No scope has a name twice.
+abbrev pub are_apart : List Symbol → Bool
+are_apart [] = true
+are_apart (first ∷ rest) = not (is_taken rest first.scope first.name) && are_apart rest

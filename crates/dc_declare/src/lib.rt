@@ -7,6 +7,7 @@ mod entry;
 mod front;
 mod given;
 mod heading;
+mod law;
 mod names;
 mod nature;
 mod procedure;
@@ -18,5 +19,6 @@ mod types;
 mod used;
 mod values;
 
+pub use law::declared_names_are_sound_and_apart;
 pub use program::declare;
 pub use totals::sizes_can_be_capped_early;
