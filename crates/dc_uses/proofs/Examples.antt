@@ -1,16 +1,15 @@
 -- What names and constant expressions break, at small places.
-use Rattle.std.proofs.Common.{◌≡◌, ℕ, Bool, true, false, List, [], ◌∷◌, Option, Some, None, refl}
-use Rattle.std.specs.Prelude.{codes, ℤ, pos}
+use Rattle.std.proofs.Common.{◌≡◌, true, false, List, [], ◌∷◌, Some, None, refl}
+use Rattle.std.specs.Prelude.{codes, pos}
 use Rattle.std.specs.Int.{int_wrap}
 use Rattle.dc_int.specs.declared.kind.Kind.{Kind}
-use Rattle.dc_tree.specs.declared.fail.Refusal.{Refusal}
 use Rattle.dc_tree.specs.declared.symbols.Role as roles
 use Rattle.dc_tree.specs.declared.symbols.Symbol.{Symbol}
 use Rattle.dc_tree.specs.declared.token.Mark.{Mark}
 use Rattle.dc_tree.specs.declared.token.Suffix.{Suffix}
 use Rattle.dc_tree.specs.Findings.{finding}
 use Rattle.dc_tree.specs.Statements.{Name}
-use Rattle.dc_tree.specs.Syntax.{Tree, number, truth, name, refer, paren, binary, no_args, arg}
+use Rattle.dc_tree.specs.Syntax.{Tree, number, truth, name, refer, binary, no_args, arg}
 use Rattle.dc_sorts.specs.declared.form.Form.{Form}
 use Rattle.dc_sorts.specs.Standing.{Standing}
 use Rattle.dc_uses.specs.Constants.{constant_with, constant_of, whole_constant, is_kind}

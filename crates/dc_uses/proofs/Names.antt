@@ -1,9 +1,8 @@
 -- Lemmas on names and arguments.
-use Rattle.std.proofs.Common.{◌≡◌, ℕ, Bool, List, [], ◌∷◌, map, length, Option, Some, None, refl, ap, suc}
+use Rattle.std.proofs.Common.{◌≡◌, List, [], ◌∷◌, map, length, Option, Some, None, refl, ap, suc}
 use Rattle.std.specs.Prelude.{option_map, is_some}
 use Rattle.dc_tree.specs.declared.expr.Arg.{Arg}
-use Rattle.dc_tree.specs.Intrinsics as functions
-use Rattle.dc_tree.specs.Syntax.{Tree, args_from, arg_tree}
+use Rattle.dc_tree.specs.Syntax.{args_from, arg_tree}
 use Rattle.dc_sorts.specs.declared.intrinsic.Intrinsic.{Intrinsic}
 use Rattle.dc_sorts.specs.Functions.{function_of}
 use Rattle.dc_uses.specs.Uses.{count_of}

@@ -1,7 +1,6 @@
 -- Constant expressions whose value can be told, and the kinds that they name. After ISO/IEC 1539-1:2023, clauses
 -- 7.4.3.1 and 10.1.12; which kinds there are is this project's own.
-use Rattle.std.specs.Prelude.{ℕ, Bool, not, ◌&&◌, ◌||◌, is_none, List, [], ◌∷◌, ◌++◌, Option, Some, None, option_map, option_and_then, if◌then◌else◌, ℤ, pos}
-use Rattle.dc_int.specs.Sorts.{Sort, whole}
+use Rattle.std.specs.Prelude.{ℕ, Bool, not, ◌||◌, is_none, List, [], ◌∷◌, Option, Some, None, option_map, option_and_then, if◌then◌else◌, ℤ, pos}
 use Rattle.dc_tree.specs.declared.fail.Refusal.{Refusal}
 use Rattle.dc_tree.specs.Findings.{finding, finding_if, least_of}
 use Rattle.dc_tree.specs.Operating.{is_equal}

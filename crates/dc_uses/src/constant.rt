@@ -67,12 +67,7 @@ pub(crate) fn note_kind_value(line: u32, value: Option<i64>, found: &mut LeastFi
 }
 
 /// Notes what a name breaks as the kind of something.
-pub(crate) fn note_kind_named(
-    standing: &Standing,
-    line: u32,
-    text: &[u8],
-    found: &mut LeastFinding,
-)
+pub(crate) fn note_kind_named(standing: &Standing, line: u32, text: &[u8], found: &mut LeastFinding)
     ensures { found.new
         ≡ least_with_all found.old (kind_findings (standing_of standing.now) line (name text.now)) }
 {

@@ -86,7 +86,7 @@ pub(crate) fn note_head(
     ensures reading { result ≡ reading_of (standing_of standing.now) text.now }
     ensures findings { found.new ≡ least_with_all found.old
         (head_findings (standing_of standing.now) line text.now
-            (count_of (args_from (map arg_tree args.now)))) }
+        (count_of (args_from (map arg_tree args.now)))) }
 {
     match standing.meaning(text) {
         Meaning::Nothing => found.note_if(!is_intrinsic(text), 20, line),
