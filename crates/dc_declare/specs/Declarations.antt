@@ -1,15 +1,15 @@
 -- The symbols that the declarations of a program make, and the rules that these break. After ISO/IEC 1539-1:2023,
 -- clauses 8 and 19.3.1.
-use Rattle.std.specs.Prelude.{ℕ, suc, List, [], ◌∷◌, ◌++◌, None}
+use Rattle.std.specs.Prelude.{ℕ, suc, List, [], ◌∷◌, ◌++◌}
 use Rattle.dc_tree.specs.declared.fail.Refusal.{Refusal}
 use Rattle.dc_tree.specs.declared.symbols.Symbol.{Symbol}
 use Rattle.dc_tree.specs.Blocks.{Line, Subprogram, Source}
-use Rattle.dc_tree.specs.Statements.{TypeForm, Attribute, Statement, use_line, declare}
+use Rattle.dc_tree.specs.Statements.{TypeForm, Attribute, Declared, Statement, use_line, declare}
 use Rattle.dc_declare.specs.declared.given.Given.{Given}
 use Rattle.dc_declare.specs.declared.heading.Heading.{Heading}
 use Rattle.dc_declare.specs.declared.scan.Scan.{Scan}
 use Rattle.dc_declare.specs.Entities.{plainly, with_attributes, each_attribute, after_entities, entities_findings}
-use Rattle.dc_declare.specs.Headings.{heading_of, with_heading, heading_findings, asked_findings}
+use Rattle.dc_declare.specs.Headings.{bare_heading, heading_of, with_heading, heading_findings, asked_findings}
 use Rattle.dc_declare.specs.Tables.{declaring}
 use Rattle.dc_declare.specs.Types.{type_of, type_findings}
 use Rattle.dc_declare.specs.Uses.{with_used, each_used, module_findings}
@@ -27,17 +27,22 @@ given_findings symbols unit line form attributes =
     let standing = declaring symbols unit in
     type_findings standing line form ++ each_attribute standing line attributes
 
+abbrev pub after_declaration : Heading → Scan → TypeForm → List Attribute → List Declared → Scan
+after_declaration heading scan form attributes names = after_entities heading scan (given_in scan.symbols heading.unit form attributes) names
+
+abbrev pub declaring_findings : Heading → Scan → ℕ → TypeForm → List Attribute → List Declared → List Refusal
+declaring_findings heading scan line form attributes names =
+    given_findings scan.symbols heading.unit line form attributes
+    ++ entities_findings heading line scan (given_in scan.symbols heading.unit form attributes) names
+
 abbrev pub after_statement : Heading → Scan → Statement → Scan
 after_statement heading scan (use_line form used names) = record { symbols = with_used scan.symbols heading.unit names; elements = scan.elements }
-after_statement heading scan (declare form attributes colons names) =
-    after_entities heading scan (given_in scan.symbols heading.unit form attributes) names
+after_statement heading scan (declare form attributes colons names) = after_declaration heading scan form attributes names
 after_statement heading scan other = scan
 
 abbrev pub statement_findings : Heading → Scan → ℕ → Statement → List Refusal
 statement_findings heading scan line (use_line form used names) = module_findings line used ++ each_used line scan.symbols heading.unit names
-statement_findings heading scan line (declare form attributes colons names) =
-    given_findings scan.symbols heading.unit line form attributes
-    ++ entities_findings heading line scan (given_in scan.symbols heading.unit form attributes) names
+statement_findings heading scan line (declare form attributes colons names) = declaring_findings heading scan line form attributes names
 statement_findings heading scan line other = []
 
 -- ---- units
@@ -83,7 +88,7 @@ procedures_findings number symbols (procedure ∷ rest) =
 -- ---- programs
 
 abbrev pub main_heading : Heading
-main_heading = record { unit = 0; dummies = []; result = None }
+main_heading = bare_heading 0
 
 abbrev pub main_symbols : Source → List Symbol
 main_symbols source = symbols_after main_heading [] source.front

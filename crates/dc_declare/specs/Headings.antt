@@ -18,11 +18,15 @@ result_name false name result = None
 result_name true name None = Some name
 result_name true name (Some given) = Some given
 
+-- A unit without dummies and result, as the main program is one.
+abbrev pub bare_heading : ℕ → Heading
+bare_heading unit = record { unit = unit; dummies = []; result = None }
+
 -- what the first line of a unit says of the names declared in it
 abbrev pub heading_of : ℕ → Statement → Heading
 heading_of unit (procedure_line prefixes function name brackets dummies result) =
     record { unit = unit; dummies = each_once [] dummies; result = result_name function name result }
-heading_of unit other = record { unit = unit; dummies = []; result = None }
+heading_of unit other = bare_heading unit
 
 -- The type in front of FUNCTION, if there is one.
 abbrev pub type_after : Standing → Option ElementType → Prefixed → Option ElementType

@@ -1,7 +1,7 @@
 //! The declarations of a unit.
 
 ghost use Rattle.std.specs.Prelude.{◌≡◌, IfOk, OnOk, map};
-ghost use Rattle.dc_declare.specs.Declarations.{given_in, given_findings, after_statement, statement_findings, after_front, front_findings, scan_of, symbols_after};
+ghost use Rattle.dc_declare.specs.Declarations.{given_in, given_findings, after_declaration, declaring_findings, after_statement, statement_findings, after_front, front_findings, scan_of, symbols_after};
 ghost use Rattle.dc_tree.specs.Blocks.{line_of};
 ghost use Rattle.dc_tree.specs.Findings.{least_with_all};
 ghost use Rattle.dc_tree.specs.Statements.{attribute, declared_of, statement, type_form};
@@ -52,6 +52,31 @@ fn note_given(
     note_attributes(alloc, &standing, line, attrs, found)
 }
 
+/// Declares the names of a declaration.
+#[tactic(auto, using(dc_tree::proofs::Findings::notes))]
+fn declare_all(
+    alloc: Global,
+    heading: &Heading,
+    line: u32,
+    spec: &TypeSpec,
+    attrs: &[Attr],
+    entities: &[Entity],
+    scan: &mut Scan,
+    found: &mut LeastFinding,
+) -> Result<(), NoMemory>
+    ensures scan { OnOk result (scan.new
+        ≡ after_declaration heading.now scan.old (type_form spec.now) (map attribute attrs.now)
+        (map declared_of entities.now)) }
+    ensures findings { OnOk result (found.new
+        ≡ least_with_all found.old (declaring_findings heading.now scan.old line
+        (type_form spec.now) (map attribute attrs.now) (map declared_of entities.now))) }
+{
+    let unit = heading.unit;
+    note_given(alloc, line, &scan.symbols, unit, spec, attrs, found)?;
+    let given = given_in(alloc, &scan.symbols, unit, spec, attrs)?;
+    declare_entities(alloc, heading, line, &given, entities, scan, found)
+}
+
 #[tactic(auto, using(dc_tree::proofs::Findings::notes))]
 fn declare_statement(
     alloc: Global,
@@ -84,17 +109,8 @@ fn declare_statement(
             entities,
         } => {
             let attrs = attrs.as_slice();
-            note_given(alloc, line, &scan.symbols, unit, spec, attrs, found)?;
-            let given = given_in(alloc, &scan.symbols, unit, spec, attrs)?;
-            declare_entities(
-                alloc,
-                heading,
-                line,
-                &given,
-                entities.as_slice(),
-                scan,
-                found,
-            )
+            let entities = entities.as_slice();
+            declare_all(alloc, heading, line, spec, attrs, entities, scan, found)
         }
         _ => Ok(()),
     }

@@ -206,7 +206,6 @@ fn declare_head(
         ≡ least_with_all found.old (heading_findings number symbols.old line
         (statement head.now))) }
 {
-    let mut gathered = Names::new(alloc);
     let Stmt::Procedure {
         prefix,
         function,
@@ -216,12 +215,9 @@ fn declare_head(
         result,
     } = head
     else {
-        return Ok(Heading {
-            unit: number,
-            dummies: gathered,
-            result: None,
-        });
+        return Ok(Heading::bare(alloc, number));
     };
+    let mut gathered = Names::new(alloc);
     declare_name(alloc, number, line, *function, name, symbols, found)?;
     gather(alloc, line, dummies.as_slice(), &mut gathered, found)?;
     let named = result_name(alloc, *function, name, result)?;

@@ -1,27 +1,16 @@
 //! The declarations of programs.
 
 ghost use Rattle.std.specs.Prelude.{◌≡◌, ◌+◌, IfOk, OnOk, map};
-ghost use Rattle.dc_declare.specs.Declarations.{main_heading, after_procedures, procedures_findings, symbols_of, declaration_findings};
+ghost use Rattle.dc_declare.specs.Declarations.{after_procedures, procedures_findings, symbols_of, declaration_findings};
 ghost use Rattle.dc_tree.specs.Blocks.{source_of, subprogram_of};
 ghost use Rattle.dc_tree.specs.Findings.{least_with_all};
 
 use crate::front::declare_unit;
 use crate::heading::Heading;
-use crate::names::Names;
 use crate::procedure::declare_procedure;
 use dc_text::NoMemory;
 use dc_tree::{LeastFinding, Procedure, Program, Symbols};
 use std::alloc::Global;
-
-fn main_heading(alloc: Global) -> Heading
-    ensures { result ≡ main_heading }
-{
-    Heading {
-        unit: 0,
-        dummies: Names::new(alloc),
-        result: None,
-    }
-}
 
 /// The number behind this one.
 fn next(number: u32) -> Result<u32, NoMemory>
@@ -66,7 +55,7 @@ pub fn declare(
     ensures findings { OnOk result (found.new
         ≡ least_with_all found.old (declaration_findings (source_of program.now))) }
 {
-    let heading = main_heading(alloc);
+    let heading = Heading::bare(alloc, 0);
     let front = program.front.as_slice();
     let symbols = declare_unit(alloc, &heading, front, Symbols::new(alloc), found)?;
     declare_procedures(alloc, program.procedures.as_slice(), symbols, found)
