@@ -8,9 +8,9 @@ use Rattle.dc_tree.specs.declared.symbols.Role as roles
 use Rattle.dc_tree.specs.declared.symbols.Symbol.{Symbol}
 use Rattle.dc_tree.specs.declared.token.Mark.{Mark}
 use Rattle.dc_tree.specs.declared.token.Suffix.{Suffix}
-use Rattle.dc_tree.specs.Blocks.{Line, Item, Items, Arms, Subprogram, Source, plain, select, loop, none, and_then, no_arms, arm}
+use Rattle.dc_tree.specs.Blocks.{Line, Item, Items, Source, plain, select, loop, none, and_then, no_arms, arm}
 use Rattle.dc_tree.specs.Findings.{finding}
-use Rattle.dc_tree.specs.Statements.{Name, TypeForm, Ranging, Target, CaseRange, Deed, Statement, integer, only, from, up_to, between, assign, fill, call, print, act, case, case_default, select_case, end_select, do_line, concurrent, end_do, program_line, end_line, procedure_line}
+use Rattle.dc_tree.specs.Statements.{Name, TypeForm, Ranging, Target, CaseRange, Statement, integer, only, from, up_to, between, assign, fill, call, print, act, case, case_default, select_case, end_select, concurrent, end_do, program_line, end_line, procedure_line}
 use Rattle.dc_tree.specs.Syntax.{Tree, number, truth, chars, name, refer, binary, no_args, arg}
 use Rattle.dc_sorts.specs.Standing.{Standing}
 use Rattle.dc_scope.specs.Deeds.{deed_findings, do_findings}

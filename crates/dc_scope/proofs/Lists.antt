@@ -6,4 +6,5 @@ pub one_more : {A : Type 0} (made : List A) (next : A) (rest : List A) → (made
 one_more made next rest = append_assoc made (next ∷ []) rest
 
 pub ruleset lists = (one_more, append-nil)
+
 pub ruleset lengths = (length-map)

@@ -1,6 +1,6 @@
 -- The rules that actions break by the names in them. After ISO/IEC 1539-1:2023, clauses 9.5.3, 10.2.1.2, 12.6.3
 -- and 15.5.1.
-use Rattle.std.specs.Prelude.{ℕ, suc, Bool, true, false, not, ◌==◌, List, [], ◌∷◌, ◌++◌, length, Option, Some, None, ℤ}
+use Rattle.std.specs.Prelude.{ℕ, suc, Bool, false, not, ◌==◌, List, [], ◌∷◌, ◌++◌, length, Option, Some, None}
 use Rattle.dc_int.specs.Store.{Bounds, elements_in}
 use Rattle.dc_tree.specs.declared.fail.Refusal.{Refusal}
 use Rattle.dc_tree.specs.declared.symbols.Role as roles

@@ -1,13 +1,13 @@
 -- The rules that the header of a DO CONCURRENT breaks by the names in it, and the names that stand for its indexes
 -- in the loop. After ISO/IEC 1539-1:2023, clauses 11.1.7.2 and 19.4.
-use Rattle.std.specs.Prelude.{ℕ, zero, suc, Bool, true, false, ◌||◌, nat_lt, List, [], ◌∷◌, ◌++◌, length, map, bytes_eq, Option, Some, None, option_map, ℤ}
+use Rattle.std.specs.Prelude.{ℕ, zero, Bool, false, ◌||◌, nat_lt, List, [], ◌∷◌, ◌++◌, length, map, bytes_eq, Option, Some, None, option_map, ℤ}
 use Rattle.std.specs.List.{list_any}
 use Rattle.dc_int.specs.declared.kind.Kind.{Kind}
 use Rattle.dc_tree.specs.declared.fail.Refusal.{Refusal}
 use Rattle.dc_tree.specs.declared.stmt.Local.{Local}
 use Rattle.dc_tree.specs.Findings.{finding, finding_if}
 use Rattle.dc_tree.specs.Literals.{kind_numbered}
-use Rattle.dc_tree.specs.Statements.{Name, TypeForm, Ranging, Statement, logical, integer, concurrent}
+use Rattle.dc_tree.specs.Statements.{Name, TypeForm, Ranging, logical, integer}
 use Rattle.dc_tree.specs.Syntax.{Tree}
 use Rattle.dc_sorts.specs.declared.form.Form.{Form}
 use Rattle.dc_sorts.specs.declared.meaning.Meaning.{Meaning}

@@ -99,13 +99,7 @@ fn note_items(
 }
 
 /// Notes what a name breaks in front of so many subscripts.
-fn note_element(
-    standing: &Standing,
-    line: u32,
-    text: &[u8],
-    count: usize,
-    found: &mut LeastFinding,
-)
+fn note_element(standing: &Standing, line: u32, text: &[u8], count: usize, found: &mut LeastFinding)
     ensures { found.new ≡ least_with_all found.old
         (element_findings (standing_of standing.now) line text.now count) }
 {
@@ -127,7 +121,7 @@ fn note_placed(
 ) -> Result<(), NoMemory>
     ensures { OnOk result (found.new ≡ least_with_all found.old
         (placed_findings (standing_of standing.now) line text.now
-            (option_map (map tree) subscripts.now))) }
+        (option_map (map tree) subscripts.now))) }
 {
     match subscripts {
         Some(list) => {
@@ -218,7 +212,8 @@ fn note_callee(standing: &Standing, line: u32, text: &[u8], found: &mut LeastFin
     match standing.meaning(text) {
         Meaning::Nothing => note_undeclared(line, text, found),
         Meaning::Procedure {
-            function: false, ..
+            function: false,
+            ..
         } => {}
         _ => found.note(21, line),
     }
@@ -242,7 +237,14 @@ pub(crate) fn note_deed(
             note_uses(alloc, standing, line, right, found)
         }
         Action::Fill { name, items } => {
-            note_fill(alloc, standing, line, name.as_bytes(), items.as_slice(), found)
+            note_fill(
+                alloc,
+                standing,
+                line,
+                name.as_bytes(),
+                items.as_slice(),
+                found,
+            )
         }
         Action::Call { name, args, .. } => {
             note_callee(standing, line, name.as_bytes(), found);

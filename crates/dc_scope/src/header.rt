@@ -91,7 +91,7 @@ fn note_types(
 ) -> Result<(), NoMemory>
     ensures { OnOk result (found.new ≡ least_with_all found.old
         (types_findings (standing_of standing.now) line
-            (option_map type_form spec.now) (map index_ranging indexes.now))) }
+        (option_map type_form spec.now) (map index_ranging indexes.now))) }
 {
     match spec {
         Some(spec) => note_type(alloc, standing, line, spec, found),
@@ -225,7 +225,7 @@ fn note_outer(
 ) -> Result<(), NoMemory>
     ensures { OnOk result (found.new ≡ least_with_all found.old
         (outer_findings (standing_of standing.now) line
-            (option_map type_form spec.now) (map index_ranging indexes.now))) }
+        (option_map type_form spec.now) (map index_ranging indexes.now))) }
 {
     note_types(alloc, standing, line, spec, indexes, found)?;
     note_names(line, indexes, found);
@@ -245,7 +245,7 @@ fn note_inner(
 ) -> Result<(), NoMemory>
     ensures { OnOk result (found.new ≡ least_with_all found.old
         (inner_findings (standing_of standing.now) line
-            (map index_ranging indexes.now) (option_map tree mask.now) locality.now)) }
+        (map index_ranging indexes.now) (option_map tree mask.now) locality.now)) }
 {
     note_limits(alloc, standing, line, indexes, found)?;
     note_optional(alloc, standing, line, mask, found)?;
@@ -254,10 +254,7 @@ fn note_inner(
 }
 
 /// Where the block of a loop stands with these indexes.
-pub(crate) fn with_indexes<'a>(
-    standing: &'a Standing<'_>,
-    indexes: &'a [IndexName],
-) -> Standing<'a>
+pub(crate) fn with_indexes<'a>(standing: &'a Standing<'_>, indexes: &'a [IndexName]) -> Standing<'a>
     ensures { standing_of result ≡ headers.with_indexes (standing_of standing.now) indexes.now }
 {
     Standing {
@@ -283,7 +280,7 @@ pub(crate) fn note_header(
 ) -> Result<(), NoMemory>
     ensures { OnOk result (found.new ≡ least_with_all found.old
         (header_findings (standing_of standing.now) line (option_map type_form spec.now)
-            (map index_ranging indexes.now) (option_map tree mask.now) locality.now)) }
+        (map index_ranging indexes.now) (option_map tree mask.now) locality.now)) }
 {
     note_outer(alloc, standing, line, spec, indexes, found)?;
     let names: DcList<IndexName> = indexes_inside(alloc, standing, spec, indexes)?;

@@ -45,7 +45,11 @@ fn extent(dimension: (i64, i64)) -> u128
     ensures { result ≡ stores.extent (dimension.0, dimension.1) }
 {
     let (low, high) = dimension;
-    if high < low { 0 } else { (i128::from(high) - i128::from(low) + 1) as u128 }
+    if high < low {
+        0
+    } else {
+        (i128::from(high) - i128::from(low) + 1) as u128
+    }
 }
 
 /// A number that is more than any list can have items.

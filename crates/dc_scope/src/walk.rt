@@ -111,7 +111,7 @@ fn note_body(
 ) -> Result<(), NoMemory>
     ensures { OnOk result (found.new ≡ least_with_all found.old
         (block_findings (within (standing_of standing.now) (statement head.now))
-            (items_from (map item nodes.now)))) }
+        (items_from (map item nodes.now)))) }
 {
     match head {
         Stmt::Concurrent { spec, indexes, .. } => {
@@ -171,11 +171,18 @@ fn note_select(
 ) -> Result<(), NoMemory>
     ensures { OnOk result (found.new ≡ least_with_all found.old
         (select_findings (standing_of standing.now) case_specs.no_cases
-            (arms_from (map part_items arms.now)))) }
+        (arms_from (map part_items arms.now)))) }
 {
     let mut cases = no_cases(alloc);
     for arm in arms.as_slice() {
-        note_case(alloc, standing, arm.head.line, &arm.head.stmt, &mut cases, found)?;
+        note_case(
+            alloc,
+            standing,
+            arm.head.line,
+            &arm.head.stmt,
+            &mut cases,
+            found,
+        )?;
         note_nodes(alloc, standing, &arm.body.nodes, found)?;
     }
     Ok(())

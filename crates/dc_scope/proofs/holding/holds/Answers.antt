@@ -1,5 +1,5 @@
-use Rattle.std.proofs.Common.{◌≡◌, ℕ, ◌+◌, ◌*◌, ◌<◌, List, ◌∷◌, drop, get_or, sym, ap, ◌∙◌, arith}
-use Rattle.std.specs.Prelude.{ℤ, pos, min}
+use Rattle.std.proofs.Common.{◌+◌, ◌*◌, ◌<◌, drop, get_or, sym, ap, ◌∙◌, arith}
+use Rattle.std.specs.Prelude.{pos, min}
 use Rattle.std.proofs.lemmas.List.{drop_more, drop_all}
 use Rattle.dc_int.specs.Store.{Bounds, elements_in, extent}
 use Rattle.dc_scope.proofs.Elements.{one_factor, same_count}
