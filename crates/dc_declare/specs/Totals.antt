@@ -6,7 +6,7 @@ abbrev pub limit_in : ℕ → ℕ
 limit_in zero = 4194304
 limit_in (suc before) = 4096
 
--- Numbers over the limits are all counted as one more than the greater of them.
+-- Numbers over the limits are all counted as one more than the greater limit.
 abbrev pub capped : ℕ → ℕ
 capped n = if nat_lt n 4194305 then n else 4194305
 

@@ -33,7 +33,7 @@ fn nature_by(constant: bool, place: Option<u32>, is_result: bool) -> Nature
     }
 }
 
-/// A place of a dummy, which is a place in memory.
+/// The place of a dummy in the width that a symbol keeps it, which is want of memory past that.
 fn narrowed(place: Option<usize>) -> Result<Option<u32>, NoMemory>
     ensures { IfOk result (λ made. made ≡ place) }
 {
