@@ -125,13 +125,8 @@ pub fn note_operands(
         Expr::Name(text) => Ok(known_name(standing, text.as_bytes())),
         Expr::Refer { name, args } => {
             let seen = note_each(alloc, standing, line, args.as_slice(), found)?;
-            note_reference(
-                standing,
-                line,
-                name.as_bytes(),
-                seen.arguments.as_slice(),
-                found,
-            );
+            let arguments = seen.arguments.as_slice();
+            note_reference(standing, line, name.as_bytes(), arguments, found);
             Ok(known_referred(standing, name.as_bytes(), seen.known.as_slice()))
         }
         Expr::Paren(inside) => note_operands(alloc, standing, line, inside.get(), found),

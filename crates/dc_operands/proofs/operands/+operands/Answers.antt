@@ -14,7 +14,7 @@ note_operands-returns-in_ok-seen-in-Refer-clause-known t c =
     let scope = scope_at (standing_of c.args.standing.now) in
     let text = c.in-Refer.name in
     let args = args_from (map arg_tree c.in-Refer.args) in
-    let known : c.as_slice-in-Refer-2.result.now ≡ known_args scope args =
-    c.as_slice-in-Refer-2.ensures ∙ c.in_ok-seen-in-Refer.ensures.known ∙ ap (λ (list : List Arg). known_args scope (args_from (map arg_tree list))) c.as_slice.ensures in
-    c.known_referred.ensures ∙ ap (λ (given : List ℕ). known_referred scope given c.as_slice-in-Refer-2.result.now) c.as_bytes-in-Refer-2.ensures
+    let known : c.as_slice-in-Refer.result.now ≡ known_args scope args =
+    c.as_slice-in-Refer.ensures ∙ c.in_ok-seen-in-Refer.ensures.known ∙ ap (λ (list : List Arg). known_args scope (args_from (map arg_tree list))) c.as_slice.ensures in
+    c.known_referred.ensures ∙ ap (λ (given : List ℕ). known_referred scope given c.as_slice-in-Refer.result.now) c.as_bytes-in-Refer-2.ensures
     ∙ ap (known_referred scope text) known ∙ sym (known-refer scope text args) ∙ sym (ap (λ (of : Tree). known_of scope of) (ap tree c.in-Refer.is ∙ tree-Refer text c.in-Refer.args))
