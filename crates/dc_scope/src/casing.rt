@@ -28,8 +28,8 @@ fn note_value(
 ) -> Result<Option<Constant>, NoMemory>
     ensures constant { IfOk result (λ constant.
         constant ≡ constants.constant_of (standing_of standing.now) (tree expr.now)) }
-    ensures findings { OnOk result (found.new
-        ≡ least_with_all found.old (value_findings (standing_of standing.now) line (tree expr.now))) }
+    ensures findings { OnOk result (found.new ≡ least_with_all found.old
+        (value_findings (standing_of standing.now) line (tree expr.now))) }
 {
     note_uses(alloc, standing, line, expr, found)?;
     let constant = constant_of(alloc, standing, expr)?;

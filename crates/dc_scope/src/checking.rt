@@ -28,8 +28,8 @@ fn note_program(
     Ok(symbols)
 }
 
-/// Gives the declared names of a program, which breaks none of the rules K19 to K27, or refuses it by the first
-/// that it breaks.
+/// Gives the declared names of a program, which breaks none of the rules K19 to K27, or refuses it
+/// by the first that it breaks.
 pub fn check_scope(alloc: Global, program: &Program) -> Result<Symbols, Fail>
     ensures { Answers (source_of program.now) result }
 {

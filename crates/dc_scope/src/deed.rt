@@ -71,8 +71,8 @@ fn note_item(
     expr: &Expr,
     found: &mut LeastFinding,
 ) -> Result<(), NoMemory>
-    ensures { OnOk result (found.new
-        ≡ least_with_all found.old (item_findings (standing_of standing.now) line (tree expr.now))) }
+    ensures { OnOk result (found.new ≡ least_with_all found.old
+        (item_findings (standing_of standing.now) line (tree expr.now))) }
 {
     if let Expr::Name(text) = expr {
         note_whole(standing, line, text.as_bytes(), found);

@@ -86,8 +86,8 @@ fn with_digit(number: u32, digit: u8) -> u32
     (number * 10 + u32::from(digit.saturating_sub(b'0'))).min(PAST_KINDS)
 }
 
-/// Whether digits write the number of a kind. However many there are, no more is kept of their number than
-/// that it is past all kinds.
+/// Whether digits write the number of a kind. However many there are, no more is kept of their
+/// number than that it is past all kinds.
 pub(crate) fn write_kind(digits: &[u8]) -> bool
     ensures { result ≡ is_kind (pos (number_of digits.now)) }
 {

@@ -51,8 +51,8 @@ pub fn note_kind(
     expr: &Expr,
     found: &mut LeastFinding,
 ) -> Result<(), NoMemory>
-    ensures { OnOk result (found.new
-        ≡ least_with_all found.old (kind_findings (standing_of standing.now) line (tree expr.now))) }
+    ensures { OnOk result (found.new ≡ least_with_all found.old
+        (kind_findings (standing_of standing.now) line (tree expr.now))) }
 {
     note_kind_value(line, whole_constant(alloc, standing, expr)?, found);
     Ok(())

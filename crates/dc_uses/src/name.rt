@@ -74,7 +74,8 @@ pub fn misfits(rank: usize, count: usize) -> bool
     rank == 0 || count != rank
 }
 
-/// Notes what a name breaks in front of arguments or subscripts, and tells how the first of them is read.
+/// Notes what a name breaks in front of arguments or subscripts, and tells how the first of them
+/// is read.
 #[tactic(auto, using(crate::proofs::Names::counted))]
 pub(crate) fn note_head(
     standing: &Standing,

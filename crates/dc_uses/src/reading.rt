@@ -11,9 +11,9 @@ use dc_sorts::{Intrinsic, Meaning, Standing, intrinsic_named};
 use dc_text::DcText;
 use dc_tree::Expr;
 
-/// What is asked of an argument: the array of an inquiry; an array that is gone over; the dimension of an
-/// inquiry, in an array of this rank if its first argument is one; the number that INT converts; the kind to
-/// which it does; or any value.
+/// What is asked of an argument: the array of an inquiry; an array that is gone over; the dimension
+/// of an inquiry, in an array of this rank if its first argument is one; the number that INT
+/// converts; the kind to which it does; or any value.
 #[derive(Clone, Copy, Debug, PartialEq, Eq)]
 pub enum Reading {
     Asked,

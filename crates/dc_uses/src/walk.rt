@@ -42,8 +42,8 @@ fn note_asked(
     expr: &Expr,
     found: &mut LeastFinding,
 ) -> Result<(), NoMemory>
-    ensures { OnOk result (found.new
-        ≡ least_with_all found.old (asked_findings (standing_of standing.now) line reading (tree expr.now))) }
+    ensures { OnOk result (found.new ≡ least_with_all found.old
+        (asked_findings (standing_of standing.now) line reading (tree expr.now))) }
 {
     match reading {
         Reading::Dimension(rank) => {
@@ -98,7 +98,8 @@ fn note_arguments(
     found: &mut LeastFinding,
 ) -> Result<(), NoMemory>
     ensures { OnOk result (found.new ≡ least_with_all found.old
-        (argument_findings (standing_of standing.now) line first (args_from (map arg_tree args.now)))) }
+        (argument_findings (standing_of standing.now) line first
+            (args_from (map arg_tree args.now)))) }
 {
     let mut reading = first;
     for arg in args.as_slice() {
