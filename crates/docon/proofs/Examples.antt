@@ -8,11 +8,19 @@ use Rattle.dc_code.specs.declared.verdict.Race.{Race}
 use Rattle.dc_code.specs.Troubles.{ended}
 use Rattle.dc_code.specs.Verdicts.{in_iteration, race}
 use Rattle.dc_run.specs.ReportLine.{done, bad, stopped}
-use Rattle.docon.specs.Report.{file_of, status_of}
+use Rattle.docon.specs.declared.command.Task.{Task}
+use Rattle.docon.specs.Report.{file_of, task_of, status_of}
 
 -- one word names no file
 no_file : file_of (codes "run" ∷ []) ≡ None
 no_file = refl
+
+-- what words ask for
+asks_check : task_of (codes "check" ∷ codes "f" ∷ []) ≡ Task.Check
+asks_check = refl
+
+asks_run : task_of (codes "run" ∷ codes "check" ∷ []) ≡ Task.Run
+asks_run = refl
 
 -- a run that comes to its end
 end_well : status_of done ≡ 0

@@ -5,7 +5,7 @@ use Rattle.dc_outer.specs.Causes.{Rose}
 use Rattle.dc_outer.specs.Memory.{SureSink, held_or_empty}
 use Rattle.docon.specs.declared.report.Report.{Report}
 use Rattle.docon.specs.Answers.{Answers}
-use Rattle.docon.specs.Report.{Reading, reading, Outcome, contents, fault, file_of, read_limit, only_log, IsSourceReport, IsReportOf, HasOutcome, Reported}
+use Rattle.docon.specs.Report.{Reading, reading, Outcome, contents, fault, file_of, task_of, read_limit, only_log, IsSourceReport, IsReportOf, HasOutcome, Reported}
 use Rattle.docon.specs.Sure.{sure_told, no_faults, sure_change, IsSureReport, HasSureRoom, WritesSurely}
 use Rattle.docon.specs.Writing.{IsWritten, WritesReport}
 
@@ -17,10 +17,10 @@ module _ (words : List (List ℕ)) (files files' : List (List ℕ × List ℕ)) 
   asked = reading words sure_told no_faults files files'
 
   sure-word : (word : Option (List ℕ)) (outcome : Outcome) (report : Report) → MatchOption word (asked.now ≡ asked.before) (λ file. HasOutcome (Some (held_or_empty files file)) 0 0 outcome)
-      → MatchOption word (report ≡ only_log (codes "words: command") 5) (λ _. IsReportOf outcome report)
-      → MatchOption word (report ≡ only_log (codes "words: command") 5) (λ _. IsReportOf (contents (take read_limit (held_or_empty files (unwrap_or word [])))) report)
+      → MatchOption word (report ≡ only_log (codes "words: command") 5) (λ _. IsReportOf (task_of words) outcome report)
+      → MatchOption word (report ≡ only_log (codes "words: command") 5) (λ _. IsReportOf (task_of words) (contents (take read_limit (held_or_empty files (unwrap_or word [])))) report)
   sure-word None outcome report read is = is
-  sure-word (Some file) (contents text) report read is = subst (λ (x : List ℕ). IsSourceReport x report) read.first is
+  sure-word (Some file) (contents text) report read is = subst (λ (x : List ℕ). IsSourceReport (task_of words) x report) read.first is
   sure-word (Some file) fault report rose is = absurd (no-rise rose)
 
   sure-report : (report : Report) → Reported asked report → IsSureReport words files report

@@ -6,8 +6,9 @@ use Rattle.dc_tree.specs.declared.symbols.Symbol.{Symbol}
 use Rattle.dc_tree.specs.Blocks.{source_of}
 use Rattle.dc_front.specs.Form.{Spells, IsFirstRefusal}
 use Rattle.dc_outer.specs.Causes.{Rose}
+use Rattle.docon.specs.declared.command.Task.{Task}
 use Rattle.docon.specs.declared.report.Report.{Report}
-use Rattle.docon.specs.Report.{Reading, contents, file_of, read_limit, run_of, status_of, RunReport, IsReport, HasOutcome, Reported}
+use Rattle.docon.specs.Report.{Reading, contents, file_of, task_of, read_limit, run_of, status_of, accepted_report, RunReport, IsReport, HasOutcome, Reported}
 use Rattle.docon.specs.Room.{Fits}
 use Rattle.docon.specs.Writing.{Change, Took, FailedIn, Untouched, WroteAll, GaveUp}
 
@@ -50,9 +51,10 @@ IsUnlessFailed status answer = (answer ≡ status) ⊎ ((answer ≡ 7) ⊎ (answ
 abbrev pub IsStatus : ℕ → Type 0
 IsStatus answer = answer ≤ 8
 
--- A source was read that some program is spelled by, and the report of its run was written whole: what it
--- wrote to out, and the line that tells how it ended to the log.
+-- The words ask for a run, and a source was read that some program is spelled by. The report of its run was
+-- written whole: what it wrote to out, and the line that tells how it ended to the log.
 pub record Ran {W L : Type 0} (asked : Reading) (out : Change W) (log : Change L) : Type 0 where
+  pub task : task_of asked.words ≡ Task.Run
   pub text : List ℕ
   pub read : Gave asked text
   pub report : Report
@@ -65,6 +67,15 @@ pub record RanWith {W L : Type 0} (status : ℕ) (asked : Reading) (out : Change
   pub ran : Ran asked out log
   pub is : ran.report.status ≡ status
 
+-- The words ask for a check, and an accepted source was read. That it is accepted was written to out.
+pub record Checked {W L : Type 0} (asked : Reading) (out : Change W) (log : Change L) : Type 0 where
+  pub task : task_of asked.words ≡ Task.Check
+  pub text : List ℕ
+  pub read : Gave asked text
+  pub accepted : IsAccepted text
+  pub out_all : Took out accepted_report.out
+  pub log_all : Took log accepted_report.log
+
 -- The source spells a program whose run has this status.
 pub record EndsWithStatus (status : ℕ) (text : List ℕ) : Type 0 where
   pub program : Program
@@ -72,11 +83,24 @@ pub record EndsWithStatus (status : ℕ) (text : List ℕ) : Type 0 where
   pub spelled : Spells text program symbols
   pub is : status_of (run_of symbols (source_of program)).ending ≡ status
 
--- Answers 0, 2, 3 and 4: only where a source was read whose run has this status, and its report was written
--- whole; and wherever the files tell such a source.
+-- Where the words ask for a run and the files tell a source whose run has this status, it is answered.
+abbrev pub AnswersRun : ℕ → Reading → ℕ → Type 0
+AnswersRun status asked answer =
+    task_of asked.words ≡ Task.Run → (text : List ℕ) → Tells asked text → EndsWithStatus status text → IsUnlessFailed status answer
+
+-- Answer 0: only where the words ask for a run, and a source was read whose run has this status, or where they
+-- ask for a check, and an accepted source was read; and the report was written whole. And wherever the files tell
+-- such a source.
+pub record CausesOfDone {W L : Type 0} (asked : Reading) (out : Change W) (log : Change L) (answer : ℕ) : Type 0 where
+  pub only : answer ≡ 0 → RanWith 0 asked out log ⊎ Checked asked out log
+  pub wherever_run : AnswersRun 0 asked answer
+  pub wherever_check : task_of asked.words ≡ Task.Check → (text : List ℕ) → Tells asked text → IsAccepted text → IsUnlessFailed 0 answer
+
+-- Answers 2, 3 and 4: only where the words ask for a run, a source was read whose run has this status, and its
+-- report was written whole; and wherever the files tell such a source.
 pub record CausesOfRun {W L : Type 0} (status : ℕ) (asked : Reading) (out : Change W) (log : Change L) (answer : ℕ) : Type 0 where
   pub only : answer ≡ status → RanWith status asked out log
-  pub wherever : (text : List ℕ) → Tells asked text → EndsWithStatus status text → IsUnlessFailed status answer
+  pub wherever : AnswersRun status asked answer
 
 -- Answer 1: only where a source was read that is refused; and wherever the files tell such a source.
 pub record CausesOfRefused (asked : Reading) (answer : ℕ) : Type 0 where
@@ -114,11 +138,11 @@ pub record CausesOfWrite {W L : Type 0} (asked : Reading) (out : Change W) (log 
 abbrev pub CausesOfMemory : {W L : Type 0} → Change W → Change L → ℕ → Type 0
 CausesOfMemory out log answer = answer ≡ 8 → Untouched out × Untouched log
 
--- Where each answer comes: 0 where the run came to its end, 2 for a race, 3 for a fault, 4 for a spent limit, 1 where
+-- Where each answer comes: 0 where the run came to its end or the check did, 2 for a race, 3 for a fault, 4 for a spent limit, 1 where
 -- the source is refused, 5 where the words are no command, 6 and 7 where a reading or a write failed, and 8 where memory was
 -- wanting. There is no other.
 pub record Causes {W L : Type 0} (asked : Reading) (out : Change W) (log : Change L) (answer : ℕ) : Type 0 where
-  pub done : CausesOfRun 0 asked out log answer
+  pub done : CausesOfDone asked out log answer
   pub raced : CausesOfRun 2 asked out log answer
   pub faulted : CausesOfRun 3 asked out log answer
   pub spent : CausesOfRun 4 asked out log answer

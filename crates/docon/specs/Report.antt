@@ -1,6 +1,6 @@
 -- The report: what the program writes and answers, from its words and the outcome of the file's
 -- reading. This project's own.
-use Rattle.std.specs.Prelude.{◌≡◌, ◌≤◌, ℕ, Bool, false, not, ◌&&◌, ◌==◌, List, [], ◌∷◌, ◌++◌, length, take, codes, decimal, Option, Some, None, MatchOption, IfSome, if◌then◌else◌, ◌⊎◌}
+use Rattle.std.specs.Prelude.{◌≡◌, ◌≤◌, ℕ, Bool, false, not, ◌&&◌, ◌||◌, ◌==◌, List, [], ◌∷◌, ◌++◌, length, take, codes, decimal, Option, Some, None, MatchOption, IfSome, if◌then◌else◌, ◌⊎◌}
 use Rattle.std.specs.Str.{bytes_eq, is_utf8}
 use Rattle.dc_int.specs.declared.fault.Why.{Why}
 use Rattle.dc_code.specs.Inner.{judging}
@@ -15,6 +15,7 @@ use Rattle.dc_outer.specs.Causes.{Rose}
 use Rattle.dc_run.specs.Playing as playing
 use Rattle.dc_run.specs.ReportLine.{Ending, done, bad, stopped, outside_names, report_line}
 use Rattle.dc_run.specs.Headline.{Reports}
+use Rattle.docon.specs.declared.command.Task.{Task}
 use Rattle.docon.specs.declared.report.Report.{Report}
 
 abbrev pub feed : List ℕ
@@ -30,9 +31,17 @@ is_option [] = false
 is_option (c ∷ []) = false
 is_option (c ∷ d ∷ rest) = c == 45
 
--- the words are `run` and a word of UTF-8 that is no option
+abbrev pub is_command : List ℕ → Bool
+is_command word = bytes_eq word (codes "run") || bytes_eq word (codes "check")
+
+-- the words are `run` or `check` and a word of UTF-8 that is no option
 unfoldable pub names_file : List ℕ → List ℕ → Bool
-names_file command file = bytes_eq command (codes "run") && is_utf8 file && not (is_option file)
+names_file command file = is_command command && is_utf8 file && not (is_option file)
+
+-- What words that name a file ask for.
+abbrev pub task_of : List (List ℕ) → Task
+task_of [] = Task.Run
+task_of (command ∷ rest) = if bytes_eq command (codes "check") then Task.Check else Task.Run
 
 -- The file that the words name.
 abbrev pub file_of : List (List ℕ) → Option (List ℕ)
@@ -95,23 +104,40 @@ pub record RunReport (text : List ℕ) (report : Report) : Type 0 where
   pub spelled : Spells text program symbols
   pub ran : IsRunReport symbols (source_of program) report
 
+-- What is written of an accepted source that isn't run.
+abbrev pub accepted_report : Report
+accepted_report = record { out = codes "accepted" ++ feed; log = []; status = 0 }
+
+-- The source is accepted, and it is only told so.
+pub record CheckReport (text : List ℕ) (report : Report) : Type 0 where
+  pub program : Program
+  pub symbols : List Symbol
+  pub spelled : Spells text program symbols
+  pub is : report ≡ accepted_report
+
 -- The source is refused: the log has its first refusal, the line and the rule.
 pub record RefusalReport (text : List ℕ) (report : Report) : Type 0 where
   pub refusal : Refusal
   pub first : IsFirstRefusal text refusal
   pub is : report ≡ only_log (refusal_words refusal.line refusal.rule) 1
 
-abbrev pub IsSourceReport : List ℕ → Report → Type 0
-IsSourceReport text report = RunReport text report ⊎ RefusalReport text report
+abbrev pub IsTaskReport : Task → List ℕ → Report → Type 0
+IsTaskReport Task.Run text report = RunReport text report
+IsTaskReport Task.Check text report = CheckReport text report
 
-abbrev pub IsReportOf : Outcome → Report → Type 0
-IsReportOf (contents text) report = IsSourceReport text report
-IsReportOf fault report = report ≡ only_log (codes "read: file") 6
+-- The report of a source: of its run or its check, and where it is refused of that.
+abbrev pub IsSourceReport : Task → List ℕ → Report → Type 0
+IsSourceReport task text report = IsTaskReport task text report ⊎ RefusalReport text report
+
+abbrev pub IsReportOf : Task → Outcome → Report → Type 0
+IsReportOf task (contents text) report = IsSourceReport task text report
+IsReportOf task fault report = report ≡ only_log (codes "read: file") 6
 
 -- The report of the words and of the outcome of the file's reading. Without a file that the words
 -- name nothing is read.
 abbrev pub IsReport : List (List ℕ) → Outcome → Report → Type 0
-IsReport words outcome report = MatchOption (file_of words) (report ≡ only_log (codes "words: command") 5) (λ _. IsReportOf outcome report)
+IsReport words outcome report =
+    MatchOption (file_of words) (report ≡ only_log (codes "words: command") 5) (λ _. IsReportOf (task_of words) outcome report)
 
 -- What a call has to read: its words, what the files tell under a name, and their count of faults before the
 -- call and after it.

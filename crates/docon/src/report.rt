@@ -2,9 +2,10 @@
 
 ghost use Rattle.std.specs.Prelude.{◌≡◌, IfOk};
 ghost use Rattle.dc_tree.specs.Blocks.{source_of};
-ghost use Rattle.docon.specs.Report.{only_log, refusal_words, IsRunReport, IsSourceReport};
+ghost use Rattle.docon.specs.Report.{only_log, refusal_words, accepted_report, IsRunReport, IsSourceReport};
 
-use crate::statuses::{REFUSED, status_of};
+use crate::command::Task;
+use crate::statuses::{DONE, REFUSED, status_of};
 use dc_front::{Accepted, accept};
 use dc_outer::Gate;
 use dc_run::{report_line, run};
@@ -67,16 +68,31 @@ fn run_report<G: Gate + Sync>(
     })
 }
 
-/// The report of a source.
+/// The report of an accepted source that isn't run.
+fn accepted_report(alloc: Global) -> Result<Report, NoMemory>
+    ensures { IfOk result (λ report. report ≡ accepted_report) }
+{
+    Ok(Report {
+        out: DcText::from_bytes(alloc, b"accepted\n")?,
+        log: DcText::new(alloc),
+        status: DONE,
+    })
+}
+
+/// The report of a source, of its run or of its check.
 pub(crate) fn source_report<G: Gate + Sync>(
     alloc: Global,
+    task: Task,
     text: &[u8],
     gate: &G,
 ) -> Result<Report, NoMemory>
-    ensures { IfOk result (IsSourceReport text.now) }
+    ensures { IfOk result (IsSourceReport task text.now) }
 {
     match accept(alloc, text) {
-        Ok(accepted) => run_report(alloc, &accepted, gate),
+        Ok(accepted) => match task {
+            Task::Run => run_report(alloc, &accepted, gate),
+            Task::Check => accepted_report(alloc),
+        },
         Err(Fail::Refused(rule)) => refusal(alloc, rule),
         Err(Fail::NoMemory) => Err(NoMemory),
     }

@@ -5,7 +5,7 @@ ghost use Rattle.docon.specs.Answers.{Answers, KeepsFiles};
 ghost use Rattle.docon.specs.Report.{reading, Reported};
 ghost use Rattle.docon.specs.Writing.{change};
 
-use crate::command::file_of;
+use crate::command::{file_of, task_of};
 use crate::report::{Report, only_log, source_report};
 use crate::statuses::{NO_MEMORY, READ_FAULT, WORDS};
 use crate::writing::write_report;
@@ -29,14 +29,15 @@ fn report<F: Files, G: Gate + Sync>(
         return only_log(alloc, b"words: command", WORDS);
     };
     match files.read(alloc, file, MOST_SOURCE) {
-        Ok(text) => source_report(alloc, text.as_slice(), gate),
+        Ok(text) => source_report(alloc, task_of(words), text.as_slice(), gate),
         Err(FileFault::Failed) => only_log(alloc, b"read: file", READ_FAULT),
         Err(FileFault::NoMemory) => Err(NoMemory),
     }
 }
 
 /// Runs the command that the words of a command line name, without the program's own name, and
-/// answers the status of the process.
+/// answers the status of the process. The command `run` runs the program of a file, and `check` only
+/// tells whether the file's source is accepted, by the same rules.
 ///
 /// **For every accepted source, whatever the input and whatever the gate does, what is written is the
 /// report of the source's run. Each loop that the run reaches ends with the one store that every order
