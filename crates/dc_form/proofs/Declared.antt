@@ -1,14 +1,19 @@
 -- Declared names: their sizes and symbols.
-use Rattle.std.proofs.Common.{◌≡◌, ℕ, zero, suc, ◌≤◌, ◌^◌, true, false, not, eqb, leb, ◌&&◌, List, [], ◌∷◌, length, map, take, Option, Some, None, refl, sym, ap, ◌∙◌, inl, inr, lit<, arith}
-use Rattle.std.specs.Prelude.{slice_get, bytes_eq, is_none}
+use Rattle.std.proofs.Common.{◌≡◌, ℕ, ℤ, zero, suc, ◌≤◌, ◌^◌, true, false, not, eqb, leb, ◌&&◌, List, [], ◌∷◌, length, map, take, Option, Some, None, refl, sym, ap, ◌∙◌, inl, inr, lit<, arith}
+use Rattle.std.proofs.lemmas.Int.{ints}
+use Rattle.std.specs.Prelude.{slice_get, bytes_eq, is_none, int_le}
 use Rattle.std.specs.Option.{option_map_or}
 use Rattle.std.specs.List.{list_all, list_any}
-use Rattle.std.proofs.lemmas.Bool.{and_parts, leb-true, or_parts, not-true, le-leb, false≢true, cases_Bool}
+use Rattle.std.proofs.lemmas.Bool.{and_parts, leb-true, eqb-true, or_parts, not-true, le-leb, false≢true, cases_Bool}
 use Rattle.std.proofs.lemmas.Bool.Decides.{eqb_tells}
 use Rattle.std.proofs.lemmas.Option.{none-some, same_Some}
 use Rattle.std.proofs.Math.Nat.{pow-le-pow_right}
 use Rattle.dc_tree.specs.declared.stmt.Entity.{Entity}
+use Rattle.dc_int.specs.declared.kind.Kind.{Kind}
+use Rattle.dc_int.specs.Store.{Bounds}
+use Rattle.dc_tree.specs.declared.symbols.Role as roles
 use Rattle.dc_tree.specs.declared.symbols.Symbol.{Symbol}
+use Rattle.dc_tree.specs.Operating.{is_equal}
 use Rattle.dc_tree.specs.Literals.{number_of}
 use Rattle.dc_tree.specs.SmallPrograms.{is_digit, is_numeral}
 use Rattle.std.proofs.lemmas.List.{length-map}
@@ -19,7 +24,7 @@ use Rattle.dc_tree.specs.SmallPrograms as small
 use Rattle.dc_tree.specs.Statements.{Name, Dimension, Declared, declared_of, integer, Statement, declare}
 use Rattle.dc_tree.specs.Symbols.{symbol_at}
 use Rattle.dc_tree.specs.Syntax.{Tree, number}
-use Rattle.dc_form.specs.Form.{is_size, begins_with_zero, is_letter, is_size_tree, has_size, has_bounds, is_absent, is_declared, is_declaration, is_front, entities_of, declared_in, bounds_of, symbol_of, symbols_of, title_of, is_close, is_framed, is_frame, is_short_program, is_built}
+use Rattle.dc_form.specs.Form.{same_bounds, is_role_of, is_symbol_of, are_symbols, is_size, begins_with_zero, is_letter, is_size_tree, has_size, has_bounds, is_absent, is_declared, is_declaration, is_front, entities_of, declared_in, bounds_of, symbol_of, symbols_of, title_of, is_close, is_framed, is_frame, is_short_program, is_built}
 
 pub size-length : (digits : List ℕ) → is_size digits ≡ true → length digits ≤ 4
 unfolding is_size
@@ -131,9 +136,6 @@ sized-title (Some title) source is =
 pub sized-frame : (source : Source) → is_frame source ≡ true → list_all has_bounds (declared_in source.front) ≡ true
 sized-frame source is = sized-title (title_of source.head.says) source is
 
-pub built-frame : (source : Source) → is_built source ≡ true → is_frame source ≡ true
-built-frame source built = (and_parts (is_frame source) (is_short_program source && small.is_small_program (symbols_of source) source) built).0
-
 -- ---- one of the entities
 
 pub sized-at : (entities : List Entity) (i : ℕ) (entity : Entity) → list_all has_bounds (map declared_of entities) ≡ true → slice_get entities i ≡ Some entity → has_bounds (declared_of entity) ≡ true
@@ -141,36 +143,63 @@ sized-at [] i entity sized here = absurd (none-some _ here)
 sized-at (first ∷ rest) zero entity sized here = sym (ap (λ e. has_bounds (declared_of e)) (same_Some _ _ here)) ∙ (and_parts (has_bounds (declared_of first)) (list_all has_bounds (map declared_of rest)) sized).0
 sized-at (first ∷ rest) (suc i) entity sized here = sized-at rest i entity (and_parts (has_bounds (declared_of first)) (list_all has_bounds (map declared_of rest)) sized).1 here
 
-none-at : (name : Name) (entities : List Entity) (i : ℕ) (entity : Entity) → list_any (λ (other : Symbol). bytes_eq other.name name) (map symbol_of (map declared_of entities)) ≡ false → slice_get entities i ≡ Some entity → bytes_eq entity.name name ≡ false
-none-at name [] i entity none here = absurd (none-some _ here)
-none-at name (first ∷ rest) zero entity none here = sym (ap (λ (e : Entity). bytes_eq e.name name) (same_Some _ _ here)) ∙ (or_parts (bytes_eq first.name name) (list_any (λ (other : Symbol). bytes_eq other.name name) (map symbol_of (map declared_of rest))) none).0
-none-at name (first ∷ rest) (suc i) entity none here = none-at name rest i entity (or_parts (bytes_eq first.name name) (list_any (λ (other : Symbol). bytes_eq other.name name) (map symbol_of (map declared_of rest))) none).1 here
+-- ---- symbols that are those of the names
 
-turned : (a b : Name) → bytes_eq a b ≡ false → bytes_eq b a ≡ false
-turned a b other =
-    elim (cases_Bool (bytes_eq b a)) [
-      | inl same ↦ absurd (false≢true (sym other ∙ (bytes_eq-Decides a b).1 (sym ((bytes_eq-Decides b a).0 same))))
-      | inr apart ↦ apart
-    ]
+equal-true : (a b : ℤ) → is_equal a b ≡ true → a ≡ b
+equal-true a b is =
+    let parts = and_parts (int_le a b) (int_le b a) is in
+    omega (arith, ints, parts.0, parts.1)
 
-fresh : (entities : List Entity) (i : ℕ) (entity : Entity) → small.are_different (map symbol_of (map declared_of entities)) ≡ true → slice_get entities i ≡ Some entity
-    → symbol_at (map symbol_of (map declared_of (take i entities))) 0 entity.name ≡ None
-fresh [] i entity different here = absurd (none-some _ here)
-fresh (first ∷ rest) zero entity different here = refl
-fresh (first ∷ rest) (suc i) entity different here =
-    let parts = and_parts (not (list_any (λ (other : Symbol). bytes_eq other.name first.name) (map symbol_of (map declared_of rest)))) (small.are_different (map symbol_of (map declared_of rest))) different in
-    let apart : bytes_eq entity.name first.name ≡ false = none-at first.name rest i entity (not-true _ parts.0) here in
-    rw (turned entity.name first.name apart) (fresh rest i entity parts.1 here)
+-- no bounds, and no symbols
+pub no-bounds : (given : Bounds) → same_bounds given [] ≡ eqb (length given) 0
+no-bounds [] = refl
+no-bounds (a ∷ rest) = grind arith
 
--- The symbol of an entity isn't among those of the entities before it.
-pub fresh-symbol : (entities : List Entity) (i : ℕ) (entity : Entity) (x : Symbol) (symbols : List Symbol) → small.are_different (map symbol_of (map declared_of entities)) ≡ true → slice_get entities i ≡ Some entity → x ≡ symbol_of (declared_of entity)
-    → symbols ≡ map symbol_of (map declared_of (take i entities)) → symbol_at symbols x.scope x.name ≡ None
-fresh-symbol entities i entity x symbols different here x_is symbols_is =
-    ap (λ (s : Symbol). symbol_at symbols s.scope s.name) x_is
-    ∙ ap (λ (list : List Symbol). symbol_at list 0 entity.name) symbols_is
-    ∙ fresh entities i entity different here
+pub no-symbols : (symbols : List Symbol) → are_symbols symbols [] ≡ eqb (length symbols) 0
+no-symbols [] = refl
+no-symbols (symbol ∷ symbols) = grind arith
 
--- A program that is run today can be run, with the names that it declares.
-pub built-small : (source : Source) → is_built source ≡ true → small.is_small_program (symbols_of source) source ≡ true
-built-small source built =
-    (and_parts (is_short_program source) (small.is_small_program (symbols_of source) source) (and_parts (is_frame source) (is_short_program source && small.is_small_program (symbols_of source) source) built).1).1
+bounds-true : (given bounds : Bounds) → same_bounds given bounds ≡ true → given ≡ bounds
+bounds-true [] [] is = refl
+bounds-true (a ∷ rest) (b ∷ more) is =
+    let parts = and_parts (is_equal a.0 b.0) (is_equal a.1 b.1 && same_bounds rest more) is in
+    let others = and_parts (is_equal a.1 b.1) (same_bounds rest more) parts.1 in
+    let low = equal-true a.0 b.0 parts.0 in
+    let high = equal-true a.1 b.1 others.0 in
+    let behind = bounds-true rest more others.1 in
+    (λ i. (low i, high i) ∷ behind i)
+bounds-true [] (b ∷ more) is = absurd (false≢true is)
+bounds-true (a ∷ rest) [] is = absurd (false≢true is)
+
+role-true : (bounds : Bounds) (role : roles.Role) → is_role_of bounds role ≡ true → role ≡ roles.Role.Variable false Kind.K4 bounds []
+role-true bounds (roles.Role.Variable false Kind.K4 given []) is = ap (λ (b : Bounds). roles.Role.Variable false Kind.K4 b []) (bounds-true given bounds is)
+role-true bounds other is = absurd (false≢true is)
+
+symbol-true : (entity : Declared) (symbol : Symbol) → is_symbol_of entity symbol ≡ true → symbol ≡ symbol_of entity
+symbol-true entity symbol is =
+    let parts = and_parts (eqb symbol.scope 0) (bytes_eq symbol.name entity.name && is_role_of (bounds_of entity.bounds) symbol.role) is in
+    let named = and_parts (bytes_eq symbol.name entity.name) (is_role_of (bounds_of entity.bounds) symbol.role) parts.1 in
+    let scope = eqb-true symbol.scope 0 parts.0 in
+    let same = (bytes_eq-Decides symbol.name entity.name).0 named.0 in
+    let role = role-true (bounds_of entity.bounds) symbol.role named.1 in
+    (λ i. record { scope = scope i; name = same i; role = role i })
+
+pub symbols-true : (symbols : List Symbol) (entities : List Declared) → are_symbols symbols entities ≡ true → symbols ≡ map symbol_of entities
+symbols-true [] [] is = refl
+symbols-true (symbol ∷ symbols) (entity ∷ entities) is =
+    let parts = and_parts (is_symbol_of entity symbol) (are_symbols symbols entities) is in
+    let first = symbol-true entity symbol parts.0 in
+    let rest = symbols-true symbols entities parts.1 in
+    (λ i. first i ∷ rest i)
+symbols-true [] (entity ∷ entities) is = absurd (false≢true is)
+symbols-true (symbol ∷ symbols) [] is = absurd (false≢true is)
+
+-- A program that is run today can be run, with its symbols.
+pub built-small : (symbols : List Symbol) (source : Source) → is_built symbols source ≡ true → small.is_small_program symbols source ≡ true
+built-small symbols source built =
+    let framed = and_parts (is_frame source) (is_short_program source && (small.is_small_program (symbols_of source) source && are_symbols symbols (declared_in source.front))) built in
+    let short = and_parts (is_short_program source) (small.is_small_program (symbols_of source) source && are_symbols symbols (declared_in source.front)) framed.1 in
+    let both = and_parts (small.is_small_program (symbols_of source) source) (are_symbols symbols (declared_in source.front)) short.1 in
+    ap (λ (list : List Symbol). small.is_small_program list source) (symbols-true symbols (declared_in source.front) both.1) ∙ both.0
+
+pub ruleset emptiness = (no-bounds, no-symbols)

@@ -1,7 +1,7 @@
 -- The programs that are run today, as a condition on trees, and the names that they declare: those that can be run, with
 -- names of one letter, numbers without leading zeros in declarations and limits, and limits on what stands in them. This
 -- project's own.
-use Rattle.std.specs.Prelude.{ℕ, ◌+◌, Bool, true, false, not, ◌&&◌, ◌||◌, ◌==◌, nat_le, List, [], ◌∷◌, map, length, bytes_eq, Option, Some, None, is_none, ℤ, pos}
+use Rattle.std.specs.Prelude.{ℕ, ◌+◌, Bool, true, false, not, ◌&&◌, ◌||◌, ◌==◌, nat_eq, nat_le, List, [], ◌∷◌, map, length, bytes_eq, Option, Some, None, is_none, ℤ, pos}
 use Rattle.std.specs.List.{list_all}
 use Rattle.std.specs.Option.{option_map_or}
 use Rattle.dc_int.specs.declared.kind.Kind.{Kind}
@@ -13,6 +13,7 @@ use Rattle.dc_tree.specs.declared.token.Suffix.{Suffix}
 use Rattle.dc_tree.specs.Blocks as blocks
 use Rattle.dc_tree.specs.Blocks.{Line, Item, Items, Source, plain, none, and_then}
 use Rattle.dc_tree.specs.Literals.{number_of}
+use Rattle.dc_tree.specs.Operating.{is_equal}
 use Rattle.dc_tree.specs.SmallPrograms.{is_numeral, is_small_program}
 use Rattle.dc_tree.specs.Statements.{Name, Dimension, Declared, Initial, absent, Ranging, integer, Statement, program_line, declare, end_line, concurrent, act, assign, print}
 use Rattle.dc_tree.specs.Syntax.{Tree, Args, number, refer, binary, no_args, arg}
@@ -96,6 +97,25 @@ symbol_of entity = record { scope = 0; name = entity.name; role = roles.Role.Var
 -- The symbols of a program, in declared order.
 abbrev pub symbols_of : Source → List Symbol
 symbols_of source = map symbol_of (declared_in source.front)
+
+abbrev pub same_bounds : Bounds → Bounds → Bool
+same_bounds [] [] = true
+same_bounds (a ∷ rest) (b ∷ more) = is_equal a.0 b.0 && (is_equal a.1 b.1 && same_bounds rest more)
+same_bounds a b = false
+
+-- an INTEGER variable of kind 4 with these bounds, without a value
+abbrev pub is_role_of : Bounds → roles.Role → Bool
+is_role_of bounds (roles.Role.Variable false Kind.K4 given []) = same_bounds given bounds
+is_role_of bounds other = false
+
+abbrev pub is_symbol_of : Declared → Symbol → Bool
+is_symbol_of entity symbol = nat_eq symbol.scope 0 && (bytes_eq symbol.name entity.name && is_role_of (bounds_of entity.bounds) symbol.role)
+
+-- The symbols are those of these names.
+abbrev pub are_symbols : List Symbol → List Declared → Bool
+are_symbols [] [] = true
+are_symbols (symbol ∷ symbols) (entity ∷ entities) = is_symbol_of entity symbol && are_symbols symbols entities
+are_symbols symbols entities = false
 
 -- ---- what stands around the statements
 
@@ -193,6 +213,7 @@ is_short_program source = are_short source.body && nat_le (outputs_in source.bod
 
 -- ---- the whole
 
--- A program that is run today.
-abbrev pub is_built : Source → Bool
-is_built source = is_frame source && (is_short_program source && is_small_program (symbols_of source) source)
+-- A program that is run today, with its symbols.
+abbrev pub is_built : List Symbol → Source → Bool
+is_built symbols source =
+    is_frame source && (is_short_program source && (is_small_program (symbols_of source) source && are_symbols symbols (declared_in source.front)))

@@ -12,4 +12,3 @@ mod values;
 
 pub use law::what_is_built_can_be_run;
 pub use program::is_built;
-pub use symbols::symbols_of;

@@ -5,13 +5,14 @@ ghost use Rattle.std.specs.List.{list_all};
 ghost use Rattle.dc_tree.specs.Blocks.{source_of};
 ghost use Rattle.dc_tree.specs.SmallPrograms as small;
 ghost use Rattle.dc_tree.specs.Statements.{declared_of};
-ghost use Rattle.dc_form.specs.Form.{has_bounds, symbol_of, symbols_of, is_frame, is_short_program, is_built};
+ghost use Rattle.dc_form.specs.Form.{has_bounds, symbol_of, symbols_of, declared_in, are_symbols, is_frame, is_short_program, is_built};
 ghost use Rattle.dc_form.specs.Uses.{has_name};
 
 use crate::bodies::are_small_items;
 use crate::counts::{are_short, outputs_in};
 use crate::frames::{declared_in, is_frame};
-use dc_tree::{Entity, Program};
+use crate::symbols::are_symbols;
+use dc_tree::{Entity, Program, Symbol};
 
 /// The most names that are declared.
 const MOST_NAMES: usize = 20;
@@ -79,9 +80,17 @@ fn is_short(program: &Program) -> bool
     are_short(nodes) && outputs_in(nodes) <= MOST_OUTPUTS
 }
 
-/// Whether a program is run today.
-pub fn is_built(program: &Program) -> bool
-    ensures { result ≡ is_built (source_of program.now) }
+fn has_symbols(program: &Program, symbols: &[Symbol]) -> bool
+    requires { IsTrue (is_frame (source_of program.now)) }
+    ensures { result ≡ are_symbols symbols.now (declared_in (source_of program.now).front) }
 {
-    is_frame(program) && (is_short(program) && is_small_program(program))
+    are_symbols(symbols, declared_in(program.front.as_slice()))
+}
+
+/// Whether a program with these symbols is run today.
+pub fn is_built(program: &Program, symbols: &[Symbol]) -> bool
+    ensures { result ≡ is_built symbols.now (source_of program.now) }
+{
+    is_frame(program)
+        && (is_short(program) && (is_small_program(program) && has_symbols(program, symbols)))
 }

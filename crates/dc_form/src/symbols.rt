@@ -1,19 +1,15 @@
-//! The declared names of a program, as symbols.
+//! Whether symbols are those of the names that a program declares.
 
-ghost use Rattle.std.specs.Prelude.{◌≡◌, ◌<◌, pos, map, option_map, IfOk, IsTrue};
+ghost use Rattle.std.specs.Prelude.{◌≡◌, ◌<◌, ◌∷◌, [], Some, pos, map, option_map, IsTrue};
 ghost use Rattle.std.specs.List.{list_all};
-ghost use Rattle.dc_tree.specs.Blocks.{source_of};
 ghost use Rattle.dc_tree.specs.Literals.{number_of};
-ghost use Rattle.dc_tree.specs.SmallPrograms.{are_different};
 ghost use Rattle.dc_tree.specs.Statements.{dimension_of, declared_of};
 ghost use Rattle.dc_tree.specs.Syntax.{tree};
-ghost use Rattle.dc_form.specs.Form.{is_size, is_size_tree, is_dimension, has_size, has_bounds, digits_of, bounds_of_dimension, bounds_of, symbol_of, symbols_of, is_built};
+ghost use Rattle.dc_form.specs.Form.{is_size, is_size_tree, has_size, has_bounds, digits_of, bounds_of_dimension, bounds_of, same_bounds, is_role_of, is_symbol_of, are_symbols};
 
-use crate::frames::declared_in;
 use dc_int::Kind;
-use dc_text::{DcList, NoMemory};
-use dc_tree::{Bound, Entity, Expr, Program, Role, Symbol, Symbols};
-use std::alloc::Global;
+use dc_text::DcList;
+use dc_tree::{Bound, Entity, Expr, Role, Symbol};
 
 #[tactic(auto, unfolding(crate::specs::Form::is_size))]
 fn number_of(digits: &[u8]) -> u32
@@ -38,68 +34,80 @@ fn size_of(size: &Expr) -> u32
     }
 }
 
-fn bounds_of_dimension(bound: &Bound) -> (i64, i64)
-    requires { IsTrue (is_dimension (dimension_of bound.now)) }
-    ensures { result ≡ bounds_of_dimension (dimension_of bound.now) }
-{
-    (1, i64::from(size_of(&bound.high)))
-}
-
-fn one_bound(alloc: Global, bounds: &[Bound]) -> Result<DcList<(i64, i64)>, NoMemory>
-    requires { IsTrue (has_size (Some (map dimension_of bounds.now))) }
-    ensures { IfOk result (λ made. made ≡ map bounds_of_dimension (map dimension_of bounds.now)) }
-{
-    let mut made = DcList::new(alloc);
-    if let [bound] = bounds {
-        made.push(bounds_of_dimension(bound))?;
-    }
-    Ok(made)
-}
-
-fn bounds_of(alloc: Global, bounds: &Option<DcList<Bound>>) -> Result<DcList<(i64, i64)>, NoMemory>
+/// Whether these are the bounds of a scalar or of an array with a size.
+fn has_bounds(given: &[(i64, i64)], bounds: &Option<DcList<Bound>>) -> bool
     requires { IsTrue (has_size (option_map (map dimension_of) bounds.now)) }
-    ensures { IfOk result (λ made. made ≡ bounds_of (option_map (map dimension_of) bounds.now)) }
+    ensures { result ≡ same_bounds given.now (bounds_of (option_map (map dimension_of) bounds.now)) }
 {
     match bounds {
-        None => Ok(DcList::new(alloc)),
-        Some(bounds) => one_bound(alloc, bounds.as_slice()),
+        None => is_scalar(given),
+        Some(dimensions) => is_array(given, dimensions.as_slice()),
     }
 }
 
-fn symbol_of(alloc: Global, entity: &Entity) -> Result<Symbol, NoMemory>
+/// Whether there are no bounds.
+#[tactic(auto, using(crate::proofs::Declared::emptiness))]
+fn is_scalar(given: &[(i64, i64)]) -> bool
+    ensures { result ≡ same_bounds given.now [] }
+{
+    given.len() == 0
+}
+
+fn is_array(given: &[(i64, i64)], dimensions: &[Bound]) -> bool
+    requires { IsTrue (has_size (Some (map dimension_of dimensions.now))) }
+    ensures { result ≡ same_bounds given.now (map bounds_of_dimension (map dimension_of dimensions.now)) }
+{
+    match dimensions {
+        [bound] => is_range(given, i64::from(size_of(&bound.high))),
+        _ => unreachable!(),
+    }
+}
+
+fn is_range(given: &[(i64, i64)], high: i64) -> bool
+    ensures { result ≡ same_bounds given.now ((pos 1, high) ∷ []) }
+{
+    match given {
+        [] => false,
+        [first, rest @ ..] => first.0 == 1 && (first.1 == high && is_scalar(rest)),
+    }
+}
+
+fn is_role_of(bounds: &Option<DcList<Bound>>, role: &Role) -> bool
+    requires { IsTrue (has_size (option_map (map dimension_of) bounds.now)) }
+    ensures { result ≡ is_role_of (bounds_of (option_map (map dimension_of) bounds.now)) role.now }
+{
+    match role {
+        Role::Variable {
+            logical: false,
+            kind: Kind::K4,
+            bounds: given,
+            initial,
+        } => initial.is_empty() && has_bounds(given.as_slice(), bounds),
+        _ => false,
+    }
+}
+
+fn is_symbol_of(entity: &Entity, symbol: &Symbol) -> bool
     requires { IsTrue (has_bounds (declared_of entity.now)) }
-    ensures { IfOk result (λ symbol. symbol ≡ symbol_of (declared_of entity.now)) }
+    ensures { result ≡ is_symbol_of (declared_of entity.now) symbol.now }
 {
-    let role = Role::Variable {
-        logical: false,
-        kind: Kind::K4,
-        bounds: bounds_of(alloc, &entity.bounds)?,
-        initial: DcList::new(alloc),
-    };
-    Ok(Symbol {
-        scope: 0,
-        name: entity.name.copy(alloc)?,
-        role,
-    })
+    symbol.scope == 0
+        && (symbol.name.as_bytes() == entity.name.as_bytes()
+            && is_role_of(&entity.bounds, &symbol.role))
 }
 
-fn all_symbols(alloc: Global, entities: &[Entity]) -> Result<Symbols, NoMemory>
-    requires sized { IsTrue (list_all has_bounds (map declared_of entities.now)) }
-    requires different { IsTrue (are_different (map symbol_of (map declared_of entities.now))) }
-    ensures { IfOk result (λ symbols. symbols ≡ map symbol_of (map declared_of entities.now)) }
+/// Whether the symbols are those of the names that are declared.
+#[tactic(auto, using(crate::proofs::Declared::emptiness))]
+pub(crate) fn are_symbols(symbols: &[Symbol], entities: &[Entity]) -> bool
+    requires { IsTrue (list_all has_bounds (map declared_of entities.now)) }
+    ensures { result ≡ are_symbols symbols.now (map declared_of entities.now) }
 {
-    let mut symbols = Symbols::new(alloc);
+    let mut rest = symbols;
     for entity in entities {
-        let symbol = symbol_of(alloc, entity)?;
-        symbols.push(alloc, symbol)?;
+        match rest {
+            [first, others @ ..] if is_symbol_of(entity, first) => rest = others,
+            _ => return false,
+        }
     }
-    Ok(symbols)
-}
-
-/// The symbols of a program that is run today, in declared order.
-pub fn symbols_of(alloc: Global, program: &Program) -> Result<Symbols, NoMemory>
-    requires { IsTrue (is_built (source_of program.now)) }
-    ensures { IfOk result (λ symbols. symbols ≡ symbols_of (source_of program.now)) }
-{
-    all_symbols(alloc, declared_in(program.front.as_slice()))
+    rest.len() == 0
 }
