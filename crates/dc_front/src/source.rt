@@ -1,13 +1,15 @@
-//! The phases, then the condition on the programs that are run today.
+//! The phases of the text, names, types, and then the condition on the programs that are run today.
 
 ghost use Rattle.std.specs.Prelude.{◌≡◌, false, IsTrue};
 ghost use Rattle.dc_tree.specs.Blocks.{source_of};
 ghost use Rattle.dc_tree.specs.SmallPrograms.{is_small_program};
 ghost use Rattle.dc_front.specs.Form.{Answers};
 
-use dc_form::{is_built, symbols_of};
+use dc_form::is_built;
 use dc_phases::read_program;
+use dc_scope::check_scope;
 use dc_tree::{Fail, Program, Symbols};
+use dc_types::check_types;
 use std::alloc::Global;
 use std::marker::Model;
 
@@ -77,8 +79,9 @@ pub fn accept(alloc: Global, text: &[u8]) -> Result<Accepted, Fail>
     ensures { Answers text.now result }
 {
     let program = read_program(alloc, text)?;
-    if is_built(&program) {
-        let symbols = symbols_of(alloc, &program)?;
+    let symbols = check_scope(alloc, &program)?;
+    check_types(alloc, &program, &symbols)?;
+    if is_built(&program, symbols.as_slice()) {
         Ok(Accepted { program, symbols })
     } else {
         Err(Fail::refused(NOT_BUILT, 1))
