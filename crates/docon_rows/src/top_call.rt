@@ -51,8 +51,12 @@ fn refusals(rt: HostRuntime) -> Result<(), Fail> {
         ("4", "", no_statement),
         ("4", "i*", no_statement),
         ("4", "-i", not_built),
-        ("4", "j", not_built),
-        ("4", "a", not_built),
+        ("4", "j", "refused: line 4: K20\n"),
+        ("4", "a", "refused: line 4: K21\n"),
+        ("4", "a(i, i)", "refused: line 4: K21\n"),
+        ("n", "i", "refused: line 2: K20\n"),
+        ("4", "2147483648", "refused: line 4: K29\n"),
+        ("4", "i == i", "refused: line 4: K28\n"),
         ("4", "1234567890", not_built),
         ("4", "i/2", not_built),
         ("4", "(i)", not_built),
@@ -62,6 +66,24 @@ fn refusals(rt: HostRuntime) -> Result<(), Fail> {
         let answer = call(rt.alloc(), source.as_bytes(), &["run", "s.f90"], &WELL)?;
         assert_eq!(rt; answer.log.as_bytes(), log.as_bytes(), "of {value}");
         assert_eq!(rt; (answer.out.len(), answer.status), (0, 1), "of {value}");
+    }
+    Ok(())
+}
+
+/// What `check` tells of the same sources: nothing is run.
+#[test]
+fn checks(rt: HostRuntime) -> Result<(), Fail> {
+    let table = [
+        ("4", "i*i", "accepted\n", ""),
+        ("4", "a(i+1)", "accepted\n", ""),
+        ("4", "j", "", "refused: line 4: K20\n"),
+        ("4", "i/2", "", "refused: line 1: K0\n"),
+    ];
+    for (size, value, out, log) in table {
+        let source = form(rt.alloc(), size, value)?;
+        let answer = call(rt.alloc(), source.as_bytes(), &["check", "s.f90"], &WELL)?;
+        assert_eq!(rt; answer.out.as_bytes(), out.as_bytes(), "of {value}");
+        assert_eq!(rt; answer.log.as_bytes(), log.as_bytes(), "of {value}");
     }
     Ok(())
 }
@@ -122,13 +144,15 @@ fn operands(rt: HostRuntime) -> Result<(), Fail> {
 
 #[test]
 fn words_and_files(rt: HostRuntime) -> Result<(), Fail> {
-    let table: [(&[&str], &str, u8); 7] = [
+    let table: [(&[&str], &str, u8); 9] = [
         (&["run"], "words: command\n", 5),
         (&[], "words: command\n", 5),
         (&["ruin", "s.f90"], "words: command\n", 5),
         (&["run", "s.f90", "s.f90"], "words: command\n", 5),
         (&["run", "--fast"], "words: command\n", 5),
+        (&["check"], "words: command\n", 5),
         (&["run", "t.f90"], "read: file\n", 6),
+        (&["check", "t.f90"], "read: file\n", 6),
         (&["run", ""], "read: file\n", 6),
     ];
     let source = form(rt.alloc(), "4", "i*i")?;
