@@ -59,7 +59,6 @@ contains
   pure subroutine clear(x, y)
     integer(int64), intent(out) :: x
     integer(int64), intent(in out) :: y
-    logical, intent(in) :: z
     x = y
     return
   end subroutine clear

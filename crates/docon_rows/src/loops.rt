@@ -214,7 +214,7 @@ const ROWS: [Row<'static>; 15] = [
             "end do",
         ],
         out: "",
-        log: "refused: line 1: K0\n",
+        log: "refused: line 4: K31\n",
         status: 1,
     },
 ];
