@@ -12,8 +12,8 @@ use Rattle.dc_tree.specs.Findings.{IsFirst, found_in}
 use Rattle.dc_tree.proofs.Findings.{first_is_one, none-in_nothing}
 use Rattle.dc_form.specs.Form.{is_built}
 use Rattle.dc_declare.specs.Declarations.{symbols_of}
-use Rattle.dc_scope.specs.Scope as scope
-use Rattle.dc_scope.specs.Scope.{scope_findings}
+use Rattle.dc_scope.specs.Answer as scope
+use Rattle.dc_scope.specs.Answer.{scope_findings}
 use Rattle.dc_types.specs.Types as types
 use Rattle.dc_types.specs.Types.{type_findings}
 use Rattle.dc_phases.specs.Answer as phases

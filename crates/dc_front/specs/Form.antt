@@ -10,7 +10,7 @@ use Rattle.dc_tree.specs.Findings.{IsFirst, found_in}
 use Rattle.dc_form.specs.Form.{is_built}
 use Rattle.dc_declare.specs.Declarations.{symbols_of}
 use Rattle.dc_phases.specs.Answer as phases
-use Rattle.dc_scope.specs.Scope.{scope_findings}
+use Rattle.dc_scope.specs.Answer.{scope_findings}
 use Rattle.dc_types.specs.Types.{type_findings}
 
 -- The program breaks no rule of names and none of types.

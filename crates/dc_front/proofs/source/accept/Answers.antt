@@ -1,10 +1,8 @@
 use Rattle.std.proofs.Common.{◌≡◌, true, List, sym, subst, ◌∙◌}
 use Rattle.std.proofs.lemmas.Result.{err_from_is_err_and}
-use Rattle.dc_tree.specs.declared.symbols.Symbol.{Symbol}
 use Rattle.dc_tree.specs.Blocks.{source_of}
-use Rattle.dc_tree.specs.SmallPrograms.{is_small_program}
 use Rattle.dc_form.proofs.Declared.{built-small}
-use Rattle.dc_front.proofs.Accepting.{refused-so}
+use Rattle.dc_front.proofs.Accepting.{refused-so, refused-names, refused-types}
 use Rattle.dc_front.proofs.source.accept.Goals as goal
 
 pub returns-in_err-program : goal.returns-in_err-program
@@ -13,6 +11,4 @@ returns-in_err-program c =
     rw (p.1, p.2) (refused-so c.args.text.now c.in_err-program.field-0.0 c.in_err-program.ensures)
 
 pub invariant_of-result : goal.invariant_of-result
-invariant_of-result c =
-    subst (λ (symbols : List Symbol). is_small_program symbols (source_of c.in_ok-program.program) ≡ true) (sym c.in_ok-symbols.ensures)
-    (built-small (source_of c.in_ok-program.program) (sym c.is_built.ensures ∙ c.if-is_built.true))
+invariant_of-result c = built-small c.in_ok-symbols.symbols (source_of c.in_ok-program.program) (sym c.is_built.ensures ∙ c.if-is_built.true)
