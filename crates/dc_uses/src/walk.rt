@@ -99,7 +99,7 @@ fn note_arguments(
 ) -> Result<(), NoMemory>
     ensures { OnOk result (found.new ≡ least_with_all found.old
         (argument_findings (standing_of standing.now) line first
-            (args_from (map arg_tree args.now)))) }
+        (args_from (map arg_tree args.now)))) }
 {
     let mut reading = first;
     for arg in args.as_slice() {
