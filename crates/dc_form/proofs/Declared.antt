@@ -1,10 +1,10 @@
 -- Declared names: their sizes and symbols.
-use Rattle.std.proofs.Common.{◌≡◌, ℕ, ℤ, zero, suc, ◌≤◌, ◌^◌, true, false, not, eqb, leb, ◌&&◌, List, [], ◌∷◌, length, map, take, Option, Some, None, refl, sym, ap, ◌∙◌, inl, inr, lit<, arith}
+use Rattle.std.proofs.Common.{◌≡◌, ℕ, ℤ, zero, suc, ◌≤◌, ◌^◌, true, false, not, eqb, leb, ◌&&◌, List, [], ◌∷◌, length, map, Option, Some, None, refl, sym, ap, ◌∙◌, inl, inr, lit<, arith}
 use Rattle.std.proofs.lemmas.Int.{ints}
 use Rattle.std.specs.Prelude.{slice_get, bytes_eq, is_none, int_le}
 use Rattle.std.specs.Option.{option_map_or}
-use Rattle.std.specs.List.{list_all, list_any}
-use Rattle.std.proofs.lemmas.Bool.{and_parts, leb-true, eqb-true, or_parts, not-true, le-leb, false≢true, cases_Bool}
+use Rattle.std.specs.List.{list_all}
+use Rattle.std.proofs.lemmas.Bool.{and_parts, leb-true, eqb-true, not-true, le-leb, false≢true}
 use Rattle.std.proofs.lemmas.Bool.Decides.{eqb_tells}
 use Rattle.std.proofs.lemmas.Option.{none-some, same_Some}
 use Rattle.std.proofs.Math.Nat.{pow-le-pow_right}
@@ -22,7 +22,6 @@ use Rattle.dc_tree.specs.declared.token.Suffix.{Suffix}
 use Rattle.dc_tree.specs.Blocks.{Line, Source}
 use Rattle.dc_tree.specs.SmallPrograms as small
 use Rattle.dc_tree.specs.Statements.{Name, Dimension, Declared, declared_of, integer, Statement, declare}
-use Rattle.dc_tree.specs.Symbols.{symbol_at}
 use Rattle.dc_tree.specs.Syntax.{Tree, number}
 use Rattle.dc_form.specs.Form.{same_bounds, is_role_of, is_symbol_of, are_symbols, is_size, begins_with_zero, is_letter, is_size_tree, has_size, has_bounds, is_absent, is_declared, is_declaration, is_front, entities_of, declared_in, bounds_of, symbol_of, symbols_of, title_of, is_close, is_framed, is_frame, is_short_program, is_built}
 
