@@ -1,81 +1,147 @@
--- Examples of the form of programs that are run today.
-use Rattle.std.proofs.Common.{◌≡◌, ℕ, Bool, true, false, List, [], ◌∷◌, Some, None, refl}
-use Rattle.std.specs.Prelude.{codes}
-use Rattle.dc_tree.specs.declared.stmt.Unit as units
+-- Examples of the programs that are run today, and of some that just aren't.
+use Rattle.std.proofs.Common.{◌≡◌, ℕ, Bool, true, false, List, [], ◌∷◌, Option, Some, None, refl}
+use Rattle.std.specs.Prelude.{ℤ, pos, negsuc, codes}
+use Rattle.dc_int.specs.declared.kind.Kind.{Kind}
+use Rattle.dc_int.specs.Store.{Bounds}
+use Rattle.dc_tree.specs.declared.stmt.Local.{Local}
+use Rattle.dc_tree.specs.declared.symbols.Role as roles
+use Rattle.dc_tree.specs.declared.symbols.Symbol.{Symbol}
 use Rattle.dc_tree.specs.declared.token.Mark.{Mark}
 use Rattle.dc_tree.specs.declared.token.Suffix.{Suffix}
 use Rattle.dc_tree.specs.Blocks as blocks
-use Rattle.dc_tree.specs.Blocks.{Line, Items, Source, plain, none, and_then}
-use Rattle.dc_tree.specs.Statements.{Name, Declared, absent, integer, Statement, program_line, declare, end_line, end_do, concurrent, act, assign, print}
-use Rattle.dc_tree.specs.Syntax.{Tree, number, name, binary}
-use Rattle.dc_form.specs.Form.{is_size, symbols_of, is_built}
+use Rattle.dc_tree.specs.Blocks.{Line, Item, Items, Source, plain, none, and_then}
+use Rattle.dc_tree.specs.BuiltPrograms.{is_built, are_built_symbols, is_held}
+use Rattle.dc_tree.specs.Statements.{Name, Ranging, Target, Statement, logical, program_line, end_line, end_do, concurrent, continue, act, assign, fill, print, read}
+use Rattle.dc_tree.specs.Syntax.{Tree, number, name, refer, binary, no_args, arg}
+use Rattle.dc_form.specs.Capped.{capped}
 
-line : ℕ → Statement → Line
-line at says = record { line = at; says = says }
+abbrev line : Statement → Line
+line says = record { line = 1; says = says }
 
-digits : List ℕ → Tree
+abbrev digits : List ℕ → Tree
 digits text = number text Suffix.Absent
 
-array : Name → List ℕ → Declared
-array declared size = record { name = declared; bounds = Some (record { low = None; high = digits size } ∷ []); initial = absent }
+abbrev scalar : Name → Symbol
+scalar text = record { scope = 0; name = text; role = roles.Role.Variable false Kind.K4 [] [] }
 
-scalar : Name → Declared
-scalar declared = record { name = declared; bounds = None; initial = absent }
+abbrev array : Name → Bounds → List ℤ → Symbol
+array text bounds initial = record { scope = 0; name = text; role = roles.Role.Variable false Kind.K4 bounds initial }
 
--- `a(i) = i * 2`, in a loop over i from 1 to a limit
-loops : List ℕ → Items
-loops last =
-    and_then (blocks.loop (line 3 (concurrent None None (record { name = codes "i"; first = digits (codes "1"); last = digits last; step = None } ∷ []) None []))
-    (and_then (plain (line 4 (act (assign (record { name = codes "a"; subscripts = Some (name (codes "i") ∷ []) }) (binary Mark.Times (name (codes "i")) (digits (codes "2"))))))) none) (line 5 (end_do None)))
-    (and_then (plain (line 6 (act (print false (name (codes "a") ∷ []))))) none)
+abbrev constant : Name → Symbol
+constant text = record { scope = 0; name = text; role = roles.Role.Constant false Kind.K4 (pos 5) }
 
-whole : Name → List Declared → Items → Statement → Source
-whole title entities body close = record {
-  head = line 1 (program_line title);
-  front = line 2 (declare (integer false None) [] true entities) ∷ [];
-  body = body;
-  contains = None;
-  procedures = [];
-  close = line 7 close;
-}
+-- a(0:4), i, n = 5
+abbrev names : List Symbol
+names = array (codes "a") ((pos 0, pos 4) ∷ []) [] ∷ scalar (codes "i") ∷ constant (codes "n") ∷ []
 
-abbrev names : List Declared
-names = array (codes "a") (codes "4") ∷ scalar (codes "i") ∷ []
+abbrev whole : Items → Source
+whole body = record { head = line (program_line (codes "p")); front = []; body = body; contains = None; procedures = []; close = line (end_line None None) }
 
-abbrev named_end : Statement
-named_end = end_line (Some units.Unit.Program) (Some (codes "p"))
+abbrev one : Item → Bool
+one item = is_built names (whole (and_then item none))
 
--- a program with the symbols of its names
-abbrev is_run : Source → Bool
-is_run source = is_built (symbols_of source) source
+abbrev said : Statement → Bool
+said statement = one (plain (line statement))
 
-example_loop : is_run (whole (codes "p") names (loops (codes "4")) named_end) ≡ true
-unfolding is_size whole loops array scalar digits line
+-- ---- statements outside of loops
+
+abbrev target : Name → Target
+target text = record { name = text; subscripts = None }
+
+example_output : said (act (print true (name (codes "a") ∷ binary Mark.Slash (name (codes "i")) (digits (codes "2")) ∷ []))) ≡ true
+example_output = refl
+
+example_list : said (act (fill (codes "a") (digits (codes "1") ∷ []))) ≡ true
+example_list = refl
+
+example_read : said (act (read false (target (codes "i") ∷ []))) ≡ false
+example_read = refl
+
+example_continue : said (act continue) ≡ false
+example_continue = refl
+
+-- ---- numbers
+
+example_greatest : is_held (digits (codes "9223372036854775807")) ≡ true
+example_greatest = refl
+
+example_over : is_held (refer (codes "a") (arg false (digits (codes "9223372036854775808")) no_args)) ≡ false
+example_over = refl
+
+-- ---- loops
+
+abbrev ranging : Name → Tree → Option Tree → Ranging
+ranging text last step = record { name = text; first = digits (codes "1"); last = last; step = step }
+
+abbrev fills : Items
+fills = and_then (plain (line (act (assign (record { name = codes "a"; subscripts = Some (name (codes "i") ∷ []) }) (name (codes "i")))))) none
+
+abbrev over : Statement → Items → Bool
+over head body = one (blocks.loop (line head) body (line (end_do None)))
+
+-- `do concurrent (i = 1:n)`
+example_loop : over (concurrent None None (ranging (codes "i") (name (codes "n")) None ∷ []) None []) fills ≡ true
 example_loop = refl
 
--- A long name, a limit with a leading zero, a bare END, and a name that is the program's aren't of the form.
-example_long_name : is_run (whole (codes "pp") names (loops (codes "4")) named_end) ≡ false
-unfolding is_size whole loops array scalar digits line
-example_long_name = refl
+example_labelled : over (concurrent (Some (codes "l")) None (ranging (codes "i") (name (codes "n")) None ∷ []) None []) none ≡ true
+example_labelled = refl
 
-example_leading_zero : is_run (whole (codes "p") names (loops (codes "04")) named_end) ≡ false
-unfolding is_size whole loops array scalar digits line
-example_leading_zero = refl
+example_own_limit : over (concurrent None None (ranging (codes "i") (name (codes "i")) None ∷ []) None []) fills ≡ false
+example_own_limit = refl
 
-example_bare_end : is_run (whole (codes "p") names (loops (codes "4")) (end_line None None)) ≡ false
-unfolding is_size whole loops array scalar digits line
-example_bare_end = refl
+example_step : over (concurrent None None (ranging (codes "i") (name (codes "n")) (Some (digits (codes "2"))) ∷ []) None []) fills ≡ false
+example_step = refl
 
-example_own_name : is_run (whole (codes "a") names (loops (codes "4")) (end_line (Some units.Unit.Program) (Some (codes "a")))) ≡ false
-unfolding is_size whole loops array scalar digits line
-example_own_name = refl
+example_mask : over (concurrent None None (ranging (codes "i") (name (codes "n")) None ∷ []) (Some (name (codes "n"))) []) fills ≡ false
+example_mask = refl
 
--- An array that isn't declared.
-example_undeclared : is_run (whole (codes "p") (scalar (codes "i") ∷ []) (loops (codes "4")) named_end) ≡ false
-unfolding is_size whole loops array scalar digits line
-example_undeclared = refl
+example_type : over (concurrent None (Some logical) (ranging (codes "i") (name (codes "n")) None ∷ []) None []) fills ≡ false
+example_type = refl
 
--- Symbols that aren't those of the names: none, and an array from 0.
-example_no_symbols : is_built [] (whole (codes "p") names (loops (codes "4")) named_end) ≡ false
-unfolding is_size whole loops array scalar digits line
-example_no_symbols = refl
+example_locality : over (concurrent None None (ranging (codes "i") (name (codes "n")) None ∷ []) None (Local.DefaultNone ∷ [])) fills ≡ false
+example_locality = refl
+
+example_two_indexes : over (concurrent None None (ranging (codes "i") (name (codes "n")) None ∷ ranging (codes "i") (name (codes "n")) None ∷ []) None []) fills ≡ false
+example_two_indexes = refl
+
+example_array_index : over (concurrent None None (ranging (codes "a") (name (codes "n")) None ∷ []) None []) none ≡ false
+example_array_index = refl
+
+example_constant_index : over (concurrent None None (ranging (codes "n") (digits (codes "3")) None ∷ []) None []) none ≡ false
+example_constant_index = refl
+
+example_output_inside : over (concurrent None None (ranging (codes "i") (name (codes "n")) None ∷ []) None []) (and_then (plain (line (act (print false [])))) none) ≡ false
+example_output_inside = refl
+
+-- ---- declared names
+
+example_given : are_built_symbols (array (codes "a") ((pos 0, pos 1) ∷ []) (pos 7 ∷ pos 8 ∷ []) ∷ []) ≡ true
+example_given = refl
+
+example_given_one : are_built_symbols (array (codes "a") ((pos 0, pos 1) ∷ []) (pos 7 ∷ []) ∷ []) ≡ false
+example_given_one = refl
+
+-- 2048 times 2048, and one element more
+example_full : are_built_symbols (array (codes "a") ((negsuc 1023, pos 1023) ∷ (pos 1, pos 2048) ∷ []) [] ∷ []) ≡ true
+example_full = refl
+
+example_over_full : are_built_symbols (scalar (codes "i") ∷ array (codes "a") ((negsuc 1023, pos 1023) ∷ (pos 1, pos 2048) ∷ []) [] ∷ []) ≡ false
+example_over_full = refl
+
+-- an array of no elements, whatever its other dimension is
+example_empty : are_built_symbols (array (codes "a") ((pos 1, pos 9223372036854775807) ∷ (pos 1, pos 0) ∷ []) [] ∷ []) ≡ true
+example_empty = refl
+
+example_inner_name : are_built_symbols (record { scope = 1; name = codes "i"; role = roles.Role.Variable false Kind.K4 [] [] } ∷ []) ≡ false
+example_inner_name = refl
+
+example_function : are_built_symbols (record { scope = 0; name = codes "f"; role = roles.Role.Function 1 } ∷ []) ≡ false
+example_function = refl
+
+-- ---- capping
+
+example_capped : capped 9223372036854775807 ≡ 9223372036854775807
+example_capped = refl
+
+example_at_cap : capped 9223372036854775809 ≡ 9223372036854775808
+example_at_cap = refl

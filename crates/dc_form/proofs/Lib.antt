@@ -1,4 +1,4 @@
-pub mod Scopes
-pub mod Blocks
-pub mod Declared
+pub mod Capped
+pub mod Headers
+pub mod Named
 mod Examples

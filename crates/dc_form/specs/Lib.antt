@@ -1,2 +1,2 @@
-pub mod Form
-pub mod Uses
+pub mod Capped
+pub mod Parts

@@ -1,14 +1,12 @@
 //! The programs that are run today: whether the tree of a source is one, and its declared names.
 #![tactic(auto)]
 
-mod bodies;
-mod counts;
-mod frames;
-mod law;
+mod capping;
+mod loops;
 mod names;
 mod program;
+mod statements;
 mod symbols;
 mod values;
 
-pub use law::what_is_built_can_be_run;
 pub use program::is_built;

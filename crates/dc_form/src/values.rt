@@ -1,96 +1,94 @@
-//! Values and subscripts that can be run today.
+//! Expressions: the numbers in them, and the names.
 
-ghost use Rattle.std.specs.Prelude.{◌≡◌, map};
+ghost use Rattle.std.specs.Prelude.{◌≡◌, map, nat_le};
 ghost use Rattle.std.specs.List.{list_all};
-ghost use Rattle.dc_tree.specs.SmallPrograms as small;
-ghost use Rattle.dc_tree.specs.Statements.{declared_of};
+ghost use Rattle.dc_tree.specs.BuiltPrograms.{is_held, are_held, mentions, some_mentions};
+ghost use Rattle.dc_tree.specs.Literals.{number_of};
 ghost use Rattle.dc_tree.specs.Syntax.{tree, arg_tree, args_from};
-ghost use Rattle.dc_form.specs.Uses.{scope_in};
 
-use crate::names::{is_scalar, is_vector};
-use dc_tree::{Arg, Entity, Expr, Mark, Suffix};
+use crate::capping::number_of;
+use dc_tree::{Arg, Expr};
 
-const MOST_DIGITS: usize = 9;
+/// The greatest number that is held.
+const GREATEST: u64 = 9_223_372_036_854_775_807;
 
-fn is_digit(byte: u8) -> bool
-    ensures { result ≡ small.is_digit byte }
+#[tactic(auto, using(crate::proofs::Capped::capping))]
+fn is_held_number(digits: &[u8]) -> bool
+    ensures { result ≡ nat_le (number_of digits.now) 9223372036854775807 }
 {
-    b'0' <= byte && byte <= b'9'
+    number_of(digits) <= GREATEST
 }
 
-fn all_digits(digits: &[u8]) -> bool
-    ensures { result ≡ list_all small.is_digit digits.now }
+#[cycle(held)]
+#[tactic(auto, using(dc_tree::proofs::Views::expression_views, std::proofs::lemmas::List::drop_more))]
+fn are_held(args: &[Arg]) -> bool
+    ensures { result ≡ are_held (args_from (map arg_tree args.now)) }
 {
-    digits.iter().all(|d| is_digit(*d))
-}
-
-/// Whether these are one to so many digits.
-pub(crate) fn is_numeral(most: usize, digits: &[u8]) -> bool
-    ensures { result ≡ small.is_numeral most digits.now }
-{
-    1 <= digits.len() && digits.len() <= most && all_digits(digits)
-}
-
-fn is_sum_or_product(mark: Mark) -> bool
-    ensures { result ≡ small.is_sum_or_product mark }
-{
-    matches!(mark, Mark::Plus | Mark::Minus | Mark::Times)
-}
-
-#[tactic(auto, using(dc_tree::proofs::Views::expression_views))]
-pub(crate) fn is_small_subscript(
-    entities: &[Entity],
-    index: Option<&[u8]>,
-    subscript: &Expr,
-) -> bool
-    ensures { result
-        ≡ small.is_small_subscript (scope_in entities.now index.entry) (tree subscript.now) }
-{
-    match subscript {
-        Expr::Number {
-            digits,
-            suffix: Suffix::Absent,
-        } => is_numeral(MOST_DIGITS, digits.as_bytes()),
-        Expr::Name(name) => is_scalar(entities, index, name.as_bytes()),
-        Expr::Binary { mark, left, right } => {
-            is_sum_or_product(*mark)
-                && (is_small_subscript(entities, index, left.get())
-                    && is_small_subscript(entities, index, right.get()))
+    for arg in args {
+        if !is_held(&arg.value) {
+            return false;
         }
-        _ => false,
     }
+    true
 }
 
-#[tactic(auto, using(dc_tree::proofs::Views::expression_views))]
-fn is_one_subscript(entities: &[Entity], index: Option<&[u8]>, args: &[Arg]) -> bool
-    ensures { result
-        ≡ small.is_one_subscript (scope_in entities.now index.entry)
-        (args_from (map arg_tree args.now)) }
-{
-    match args {
-        [arg] => !arg.keyed && is_small_subscript(entities, index, &arg.value),
-        [] => false,
-        [_first, _second, ..] => false,
-    }
-}
-
-#[tactic(auto, using(dc_tree::proofs::Views::expression_views))]
-pub(crate) fn is_small(entities: &[Entity], index: Option<&[u8]>, value: &Expr) -> bool
-    ensures { result ≡ small.is_small (scope_in entities.now index.entry) (tree value.now) }
+/// Whether the numbers of an expression are held.
+#[cycle(held)]
+#[tactic(auto, using(dc_tree::proofs::Views::expression_views, std::proofs::lemmas::List::drop_more))]
+pub(crate) fn is_held(value: &Expr) -> bool
+    ensures { result ≡ is_held (tree value.now) }
 {
     match value {
-        Expr::Number {
-            digits,
-            suffix: Suffix::Absent,
-        } => is_numeral(MOST_DIGITS, digits.as_bytes()),
-        Expr::Name(name) => is_scalar(entities, index, name.as_bytes()),
-        Expr::Refer { name, args } => {
-            is_vector(entities, index, name.as_bytes())
-                && is_one_subscript(entities, index, args.as_slice())
+        Expr::Number { digits, .. } => is_held_number(digits.as_bytes()),
+        Expr::Refer { args, .. } => are_held(args.as_slice()),
+        Expr::Paren(inside) => is_held(inside.get()),
+        Expr::Unary { right, .. } => is_held(right.get()),
+        Expr::Binary { left, right, .. } => is_held(left.get()) && is_held(right.get()),
+        _ => true,
+    }
+}
+
+/// Whether the numbers of all these expressions are held.
+#[tactic(auto, using(std::proofs::lemmas::List::drop_more))]
+pub(crate) fn all_held(values: &[Expr]) -> bool
+    ensures { result ≡ list_all is_held (map tree values.now) }
+{
+    for value in values {
+        if !is_held(value) {
+            return false;
         }
-        Expr::Binary { mark, left, right } => {
-            is_sum_or_product(*mark)
-                && (is_small(entities, index, left.get()) && is_small(entities, index, right.get()))
+    }
+    true
+}
+
+#[cycle(mentioned)]
+#[tactic(auto, using(dc_tree::proofs::Views::expression_views, std::proofs::lemmas::List::drop_more))]
+fn some_mentions(asked: &[u8], args: &[Arg]) -> bool
+    ensures { result ≡ some_mentions asked.now (args_from (map arg_tree args.now)) }
+{
+    for arg in args {
+        if mentions(asked, &arg.value) {
+            return true;
+        }
+    }
+    false
+}
+
+/// Whether an expression refers to what has this name.
+#[cycle(mentioned)]
+#[tactic(auto, using(dc_tree::proofs::Views::expression_views, std::proofs::lemmas::List::drop_more))]
+pub(crate) fn mentions(asked: &[u8], value: &Expr) -> bool
+    ensures { result ≡ mentions asked.now (tree value.now) }
+{
+    match value {
+        Expr::Name(name) => name.as_bytes() == asked,
+        Expr::Refer { name, args } => {
+            name.as_bytes() == asked || some_mentions(asked, args.as_slice())
+        }
+        Expr::Paren(inside) => mentions(asked, inside.get()),
+        Expr::Unary { right, .. } => mentions(asked, right.get()),
+        Expr::Binary { left, right, .. } => {
+            mentions(asked, left.get()) || mentions(asked, right.get())
         }
         _ => false,
     }

@@ -11,7 +11,7 @@ use Rattle.dc_tree.specs.Blocks.{Source, source_of}
 use Rattle.dc_tree.proofs.BlocksBack.{program-told_apart}
 use Rattle.dc_tree.specs.Findings.{IsFirst, found_in}
 use Rattle.dc_tree.proofs.Findings.{first_is_one, none-in_nothing}
-use Rattle.dc_form.specs.Form.{is_built}
+use Rattle.dc_tree.specs.BuiltPrograms.{is_built}
 use Rattle.dc_declare.specs.Declarations.{symbols_of}
 use Rattle.dc_scope.specs.Answer as scope
 use Rattle.dc_scope.specs.Answer.{scope_findings}
@@ -108,10 +108,6 @@ one-refusal text a b first other =
 pub refused-so : (text : List ℕ) (fail : Fail) → phases.Answers text (Err fail) → Answers text (Err fail)
 refused-so text Fail.NoMemory is = tt
 refused-so text (Fail.Refused refusal) is = inl is
-
-pub refused-names : (text : List ℕ) (source : Source) (fail : Fail) → phases.Spells text source → scope.Answers source (Err fail) → Answers text (Err fail)
-refused-names text source Fail.NoMemory spelled is = tt
-refused-names text source (Fail.Refused refusal) spelled is = inr (inl (record { source = source; spelled = spelled; first = inl is }))
 
 pub refused-types : (text : List ℕ) (source : Source) (symbols : List Symbol) (fail : Fail) → phases.Spells text source → scope.Answers source (Ok symbols) → types.Answers symbols source (Err fail) → Answers text (Err fail)
 refused-types text source symbols Fail.NoMemory spelled named is = tt

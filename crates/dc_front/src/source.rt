@@ -2,7 +2,7 @@
 
 ghost use Rattle.std.specs.Prelude.{◌≡◌, false, IsTrue};
 ghost use Rattle.dc_tree.specs.Blocks.{source_of};
-ghost use Rattle.dc_tree.specs.SmallPrograms.{is_small_program};
+ghost use Rattle.dc_tree.specs.BuiltPrograms.{is_built};
 ghost use Rattle.dc_front.specs.Form.{Answers};
 
 use dc_form::is_built;
@@ -13,7 +13,7 @@ use dc_types::check_types;
 use std::alloc::Global;
 use std::marker::Model;
 
-/// A source that breaks no rule, with its tree and its declared names. Its program can be run.
+/// A source that breaks no rule, with its tree and its declared names. Its program is run today.
 pub struct Accepted {
     program: Program,
     symbols: Symbols,
@@ -22,7 +22,7 @@ pub struct Accepted {
 impl Model for Accepted {
     ghost use Rattle.std.specs.Prelude.{IsTrue};
     ghost use Rattle.dc_tree.specs.Blocks.{source_of};
-    ghost use Rattle.dc_tree.specs.SmallPrograms.{is_small_program};
+    ghost use Rattle.dc_tree.specs.BuiltPrograms.{is_built};
     ghost use Rattle.dc_tree.specs.contracts.program.Program as tree;
     ghost use Rattle.dc_tree.specs.contracts.symbols.Symbol as symbol;
     ghost use Rattle.dc_front.specs.Form.{Taken, taken_code};
@@ -33,7 +33,7 @@ impl Model for Accepted {
 
     ghost view = { λ a. record { program = a.program; symbols = a.symbols } };
 
-    ghost invariant = { λ a. IsTrue (is_small_program a.symbols (source_of a.program)) };
+    ghost invariant = { λ a. IsTrue (is_built a.symbols (source_of a.program)) };
 }
 
 impl Drop for Accepted {
@@ -49,7 +49,7 @@ impl Accepted {
     /// The tree of the source.
     pub fn program(&self) -> &Program
         ensures value { result.now ≡ self.now.program }
-        ensures small { IsTrue (is_small_program self.now.symbols (source_of self.now.program)) }
+        ensures built { IsTrue (is_built self.now.symbols (source_of self.now.program)) }
     {
         &self.program
     }
@@ -57,7 +57,7 @@ impl Accepted {
     /// The declared names.
     pub fn symbols(&self) -> &Symbols
         ensures value { result.now ≡ self.now.symbols }
-        ensures small { IsTrue (is_small_program self.now.symbols (source_of self.now.program)) }
+        ensures built { IsTrue (is_built self.now.symbols (source_of self.now.program)) }
     {
         &self.symbols
     }
@@ -81,7 +81,7 @@ pub fn accept(alloc: Global, text: &[u8]) -> Result<Accepted, Fail>
     let program = read_program(alloc, text)?;
     let symbols = check_scope(alloc, &program)?;
     check_types(alloc, &program, &symbols)?;
-    if is_built(&program, symbols.as_slice()) {
+    if is_built(&program, &symbols) {
         Ok(Accepted { program, symbols })
     } else {
         Err(Fail::refused(NOT_BUILT, 1))

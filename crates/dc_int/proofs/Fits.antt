@@ -14,7 +14,7 @@ use Rattle.dc_int.proofs.Wraps.{is_of_kind-holds, wrapped_in_range}
 use Rattle.dc_int.specs.declared.kind.Kind.{Kind}
 use Rattle.dc_int.specs.Kinds.{InRange, value_fits, wrapped, is_truth_value}
 use Rattle.dc_int.specs.Sorts.{fitted, sort_with}
-use Rattle.dc_int.specs.Reductions.{is_logical, can_combine}
+use Rattle.dc_int.specs.Reductions.{truth, number_of_truth, is_logical, can_combine}
 use Rattle.dc_int.specs.Shapes.{cell_fits, variable_fits, store_fits, state_fits, entry_fits}
 use Rattle.dc_int.specs.Store.{Variable, Store, cell_of, value_at, number_in, put_at, with_cell, changed_at, bounds_of, elements_within}
 
@@ -253,8 +253,12 @@ truth-fits kind z is = both (is_of_kind-holds kind z (truth-within kind z is)) i
 pub wrapped-fits : (kind : Kind) (z : ℤ) → value_fits kind false (wrapped kind z) ≡ true
 wrapped-fits kind z = both (is_of_kind-holds kind (wrapped kind z) (wrapped_in_range kind z)) refl
 
+-- The number of a truth is one of a LOGICAL.
+pub truth_number-fits : (kind : Kind) (b : Bool) → value_fits kind true (number_of_truth b) ≡ true
+truth_number-fits kind true = truth-fits kind (pos 1) refl
+truth_number-fits kind false = truth-fits kind (pos 0) refl
+
 -- What an assignment makes of a value is a value of the variable.
-pub fitted-fits
-    : (logical : Bool) (kind : Kind) (z : ℤ) → (logical ≡ true → is_truth_value z ≡ true) → value_fits kind logical (fitted (sort_with logical kind) z) ≡ true
-fitted-fits true kind z truth = truth-fits kind z (truth refl)
-fitted-fits false kind z truth = wrapped-fits kind z
+pub fitted-fits : (logical : Bool) (kind : Kind) (z : ℤ) → value_fits kind logical (fitted (sort_with logical kind) z) ≡ true
+fitted-fits true kind z = truth_number-fits kind (truth z)
+fitted-fits false kind z = wrapped-fits kind z

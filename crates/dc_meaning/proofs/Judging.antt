@@ -7,29 +7,28 @@ use Rattle.dc_int.specs.Store.{Store}
 use Rattle.dc_code.specs.Loops.{Loop, alone}
 use Rattle.dc_code.specs.Troubles.{ended}
 use Rattle.dc_code.specs.Verdicts.{in_iteration, or_later}
+use Rattle.dc_plain.specs.Marks.{Marks, marked_runs}
+use Rattle.dc_plain.specs.Views.{View}
+use Rattle.dc_sorts.specs.Standing.{standing_of, scope_at}
 use Rattle.dc_tree.specs.Blocks.{items}
-use Rattle.dc_tree.specs.Entities.{main_scope}
-use Rattle.dc_tree.specs.SmallPrograms.{with_index}
-use Rattle.dc_tree.specs.Statements.{statement}
 use Rattle.dc_meaning.specs.declared.stop.Stop.{Stop}
 use Rattle.dc_meaning.specs.declared.task.Task.{Task}
 use Rattle.dc_meaning.specs.Actions as actions
-use Rattle.dc_meaning.specs.Alone.{index_name}
 use Rattle.dc_meaning.specs.Execution.{exec_all}
 use Rattle.dc_meaning.specs.Judging.{IsDoneBy, IsOne, IsTask, fresh, combination, bad_of, runs_of}
-use Rattle.dc_meaning.specs.Marks.{Marks, marked_runs}
-use Rattle.dc_meaning.specs.Walking.{View, Walks}
+use Rattle.dc_meaning.specs.Walking.{Stays}
 
--- what the walker does for a task over cells that note nothing yet is an iteration
-pub iterated : (parts : Loop) (task : Task) → IsTask parts task → (given z : ℤ) → given ≡ z → (store : Store) (before after : View) (result : Result (Unit {0}) Stop)
-    → before ≡ fresh store
-    → ((number : ℕ) → Walks (λ done. actions.on) ((Some given ∷ []) ∷ []) before
-    (λ call. exec_all (with_index (main_scope task.symbols.now) (index_name (statement task.head.now))) call number (items task.body.now)) after result)
-    → IsDoneBy (parts.block store [] (combination z)) after result
-iterated parts task is given z same store before after result fresh_is walks =
+-- What the walker does for the block of a task, for a value of its index.
+abbrev pub IsCarriedOut : Task → ℤ → View → View → Result (Unit {0}) Stop → Type 0
+IsCarriedOut task z before after result =
+    (number : ℕ) → Stays (λ done. actions.on) ((Some z ∷ []) ∷ []) before (λ call. exec_all (scope_at (standing_of task.standing)) call number (items task.body.now)) after result
+
+-- Over a view that has no entries yet this is an iteration.
+pub iterated : (parts : Loop) (task : Task) → IsTask parts task → (given z : ℤ) → given ≡ z → (store : Store) (before after : View) (result : Result (Unit {0}) Stop) → before ≡ fresh store
+    → IsCarriedOut task given before after result → IsDoneBy (parts.block store [] (combination z)) after result
+iterated parts task is given z same store before after result fresh_is stays =
     subst (λ y. IsDoneBy (parts.block store [] (combination y)) after result) same
-    (is.run.runs given store after result (subst (λ (b : View). (number : ℕ) → Walks (λ done. actions.on) ((Some given ∷ []) ∷ []) b
-    (λ call. exec_all (with_index (main_scope task.symbols.now) (index_name (statement task.head.now))) call number (items task.body.now)) after result) fresh_is walks))
+    (is.run.runs given store after result (subst (λ (b : View). IsCarriedOut task given b after result) fresh_is stays))
 
 -- ---- one iteration among those that are left
 

@@ -1,6 +1,6 @@
 -- From what the walker answers for a block to the passage of an iteration.
 use Rattle.std.proofs.Common.{◌≡◌, ℕ, suc, Bool, true, false, ◌&&◌, List, [], ◌∷◌, ◌++◌, map, Option, Some, None, refl, sym, ap, subst, ◌∙◌, append_assoc, append-nil}
-use Rattle.std.specs.Prelude.{Result, Ok, Err, IfOk, ℤ, slice_get, is_some}
+use Rattle.std.specs.Prelude.{Result, Ok, Err, IfOk, ℤ, slice_get, is_some, is_none}
 use Rattle.std.proofs.lemmas.Bool.{and_parts, false≢true}
 use Rattle.std.proofs.lemmas.Option.{none-some, same_Some}
 use Rattle.dc_int.specs.Entries.{Reads, Defines, Undefines, Contributes, accesses_of, last_states, contributions_of}
@@ -10,15 +10,16 @@ use Rattle.dc_code.specs.Inner.{judging, nested_loop, inner}
 use Rattle.dc_code.specs.Loops.{Orders, Form}
 use Rattle.dc_code.specs.Passages.{Entering, through}
 use Rattle.dc_code.specs.Troubles.{Failure, Trouble, in_statement, Computing, Event, Slots}
+use Rattle.dc_plain.specs.Views.{View, noted, store_with}
 use Rattle.dc_tree.specs.declared.program.Program.{Program}
 use Rattle.dc_tree.specs.declared.symbols.Symbol.{Symbol}
-use Rattle.dc_tree.specs.Blocks.{Line, Items, Source, source_of}
+use Rattle.dc_tree.specs.Blocks.{Line, Items, Subprogram, Source, source_of}
+use Rattle.dc_tree.specs.BuiltPrograms.{are_built_symbols, are_built_items, is_built_loop, is_built}
 use Rattle.dc_tree.specs.Entities.{main_scope}
-use Rattle.dc_tree.specs.SmallPrograms.{with_index, is_small_program, are_small_symbols, has_no_procedures, are_small_items, is_small_loop}
 use Rattle.dc_meaning.specs.declared.alone_out.AloneOut.{AloneOut}
 use Rattle.dc_meaning.specs.declared.stop.Stop.{Stop}
 use Rattle.dc_meaning.specs.Acts.{Act}
-use Rattle.dc_meaning.specs.Actions.{Flow}
+use Rattle.dc_meaning.specs.Actions.{Flow, on}
 use Rattle.dc_meaning.specs.Alone.{trouble_of, Tells, nth_loop, index_name, block_alone, iteration_alone, Ends}
 use Rattle.dc_meaning.specs.Concurrent.{Concurrent}
 use Rattle.dc_meaning.specs.Execution.{exec_all}
@@ -27,10 +28,9 @@ use Rattle.dc_meaning.specs.Numbering.{loops_of_all, no_loop}
 use Rattle.dc_meaning.specs.Programs.{surroundings, program_forms, program_loops}
 use Rattle.dc_meaning.specs.Telling.{IsTold}
 use Rattle.dc_meaning.specs.Values.{Callee}
-use Rattle.dc_meaning.specs.Views.{store_with}
-use Rattle.dc_meaning.specs.Walking.{View, noted, seen_over, state_in, Walks}
-use Rattle.dc_meaning.proofs.Looping.{small-concurrent, LoopAt, IsLoop, loop-found, block-form, copies-form}
-use Rattle.dc_meaning.proofs.Storing.{goes_on}
+use Rattle.dc_meaning.specs.Walking.{seen_over, state_in, Stays}
+use Rattle.dc_meaning.specs.WalkScope.{index_scope}
+use Rattle.dc_meaning.proofs.Looping.{concurrent-with, LoopAt, IsLoop, loop-found, block-form, copies-form}
 use Rattle.dc_meaning.proofs.Walking.{then, seen-then}
 
 -- ---- a block without loops passes as it runs
@@ -133,13 +133,13 @@ if-ok P Q (Err e) leads holds = tt
 
 -- ---- the block of an iteration
 
-ends-walks : {own : Slots} {before after : View} {act : Callee → Act Flow} (call : Callee) (turns : ℕ) (r : Result (Unit {0}) Stop) → Walks goes_on own before act after r
+ends-stays : {own : Slots} {before after : View} {act : Callee → Act Flow} (call : Callee) (turns : ℕ) (r : Result (Unit {0}) Stop) → Stays (λ done. on) own before act after r
     → Ends before (inside_frame own turns (act call) (λ flow left. left)) after r
-ends-walks {own = own} {before = before} {act = act} call turns (Ok well) walks =
-    record { answers = (turns, seen-then before (act call (state_in own turns)) (λ w. give (w.1).turns) ∙ ap (λ w. then w (λ w. give (w.1).turns)) (walks.answers call turns)) }
-ends-walks {own = own} {before = before} {act = act} call turns (Err (Stop.Failed why line)) walks =
-    record { answers = seen-then before (act call (state_in own turns)) (λ w. give (w.1).turns) ∙ ap (λ w. then w (λ w. give (w.1).turns)) (walks.answers call turns) }
-ends-walks call turns (Err Stop.NoMemory) walks = record { answers = tt }
+ends-stays {own = own} {before = before} {act = act} call turns (Ok well) stays =
+    record { answers = (turns, seen-then before (act call (state_in own turns)) (λ w. give (w.1).turns) ∙ ap (λ w. then w (λ w. give (w.1).turns)) ((stays.each turns).answers call)) }
+ends-stays {own = own} {before = before} {act = act} call turns (Err (Stop.Failed why line)) stays =
+    record { answers = seen-then before (act call (state_in own turns)) (λ w. give (w.1).turns) ∙ ap (λ w. then w (λ w. give (w.1).turns)) ((stays.each turns).answers call) }
+ends-stays call turns (Err Stop.NoMemory) stays = record { answers = tt }
 
 ends-as : {before after : View} {c other : Computing ℕ} {r : Result (Unit {0}) Stop} → c ≡ other → Ends before other after r → Ends before c after r
 ends-as {before = before} {after = after} {r = r} same ends = subst (λ d. Ends before d after r) (sym same) ends
@@ -156,17 +156,27 @@ pub form-is : (symbols : List Symbol) (source : Source) (turns number : ℕ) (ar
 form-is symbols source turns number around None at = rw at refl
 form-is symbols source turns number around (Some found) at = rw at refl
 
-module _ (symbols : List Symbol) (source : Source) (form : is_small_program symbols source ≡ true) (number : ℕ) where
-  items-small : are_small_items (main_scope symbols) source.body ≡ true
-  items-small =
-      (and_parts (has_no_procedures source) (are_small_items (main_scope symbols) source.body)
-      (and_parts (are_small_symbols symbols) (has_no_procedures source && are_small_items (main_scope symbols) source.body) form).1).1
+-- A program that can be run: its names, and its statements.
+pub record BuiltSource (symbols : List Symbol) (source : Source) : Type 0 where
+  pub names : are_built_symbols symbols ≡ true
+  pub body : are_built_items (main_scope symbols) source.body ≡ true
 
-  pub symbols-small : are_small_symbols symbols ≡ true
-  symbols-small = (and_parts (are_small_symbols symbols) (has_no_procedures source && are_small_items (main_scope symbols) source.body) form).0
+pub built-source : (symbols : List Symbol) (source : Source) → is_built symbols source ≡ true → BuiltSource symbols source
+built-source symbols source built = by source.procedures built
+  where
+    by : (procedures : List Subprogram)
+        → is_built symbols (record { head = source.head; front = source.front; body = source.body; contains = source.contains; procedures = procedures; close = source.close }) ≡ true
+        → BuiltSource symbols source
+    by [] e =
+        let names = are_built_symbols symbols in
+        let body = are_built_items (main_scope symbols) source.body in
+        let both = and_parts names body (and_parts (is_none source.contains) (names && body) e).1 in
+        record { names = both.0; body = both.1 }
+    by (first ∷ rest) e = absurd (false≢true e)
 
+module _ (symbols : List Symbol) (source : Source) (form : is_built symbols source ≡ true) (number : ℕ) where
   pub found-at : (turns : ℕ) → IsLoop (main_scope symbols) (loops-in symbols source turns) number (nth_loop number source.body)
-  found-at turns = loop-found (surroundings symbols source turns) (main_scope symbols) 0 number source.body items-small
+  found-at turns = loop-found (surroundings symbols source turns) (main_scope symbols) 0 number source.body (built-source symbols source form).body
 
   -- There is such a loop where the walker finds one.
   pub some-loop : (turns : ℕ) → is_some (nth_loop number source.body) ≡ is_some (slice_get (program_loops symbols source turns) number)
@@ -183,19 +193,19 @@ module _ (symbols : List Symbol) (source : Source) (form : is_small_program symb
   none-at : (turns : ℕ) → None ≡ nth_loop number source.body → slice_get (loops-in symbols source turns) number ≡ None
   none-at turns is = subst (IsLoop (main_scope symbols) (loops-in symbols source turns) number) (sym is) (found-at turns)
 
-  pub loop-small : (head : Line) (body : Items) → Some (head, body) ≡ nth_loop number source.body → is_small_loop (main_scope symbols) head.says body ≡ true
-  loop-small head body is = (loop-at 0 head body is).whole
+  pub loop-built : (head : Line) (body : Items) → Some (head, body) ≡ nth_loop number source.body → is_built_loop (main_scope symbols) head.says body ≡ true
+  loop-built head body is = (loop-at 0 head body is).whole
 
   pub loop-ends : {before after : View} {r : Result (Unit {0}) Stop} (head : Line) (body : Items) (z : ℤ) (turns : ℕ) → Some (head, body) ≡ nth_loop number source.body
-      → ((counted : ℕ) → Walks goes_on ((Some z ∷ []) ∷ []) before (λ call. exec_all (with_index (main_scope symbols) (index_name head.says)) call counted body) after r)
+      → ((counted : ℕ) → Stays (λ done. on) ((Some z ∷ []) ∷ []) before (λ call. exec_all (index_scope symbols (index_name head.says)) call counted body) after r)
       → Ends before (block_alone symbols source number (z ∷ []) turns) after r
-  loop-ends {r = r} head body z turns is walks =
+  loop-ends {r = r} head body z turns is stays =
       let at = loop-at turns head body is in
       let within = surroundings symbols source turns in
       ends-as
-      (ap (λ (f : Form). f.block [] (z ∷ [])) (form-is symbols source turns number [] (Some (small-concurrent (main_scope symbols) at.counted head body at.small.ranging)) at.at)
-      ∙ block-form within symbols at.counted head body at.small z)
-      (ends-walks within.call within.turns r (walks (suc at.counted)))
+      (ap (λ (f : Form). f.block [] (z ∷ [])) (form-is symbols source turns number [] (Some (concurrent-with (main_scope symbols) at.counted head body at.built.ranging)) at.at)
+      ∙ block-form within symbols at.counted head body at.built z)
+      (ends-stays within.call within.turns r (stays (suc at.counted)))
 
   pub none-ends : {view : View} (z : ℤ) (turns : ℕ) → None ≡ nth_loop number source.body → Ends view (block_alone symbols source number (z ∷ []) turns) view (Ok tt)
   none-ends z turns is =
@@ -207,13 +217,13 @@ module _ (symbols : List Symbol) (source : Source) (form : is_small_program symb
       by : (found : Option (Line × Items)) → IsLoop (main_scope symbols) (loops-in symbols source turns) number found → (program_forms symbols source turns number []).copied ≡ []
       by None at = ap (λ (f : Form). f.copied) (form-is symbols source turns number [] None at)
       by (Some found) at =
-          ap (λ (f : Form). f.copied) (form-is symbols source turns number [] (Some (small-concurrent (main_scope symbols) at.counted found.0 found.1 at.small.ranging)) at.at)
-          ∙ copies-form (surroundings symbols source turns) symbols at.counted found.0 found.1 at.small []
+          ap (λ (f : Form). f.copied) (form-is symbols source turns number [] (Some (concurrent-with (main_scope symbols) at.counted found.0 found.1 at.built.ranging)) at.at)
+          ∙ copies-form (surroundings symbols source turns) symbols at.counted found.0 found.1 at.built []
 
 -- ---- an iteration alone
 
 pub alone-tells : (program : Program) (symbols : List Symbol) (number : ℕ) (combination : List ℤ) (opening : List (Option ℤ)) (turns : ℕ) (cells after : View) (z : ℤ) (result : Result (Unit {0}) Stop) (out : AloneOut)
-    → is_small_program symbols (source_of program) ≡ true → cells ≡ record { store = store_with symbols opening; entries = [] } → combination ≡ z ∷ []
+    → is_built symbols (source_of program) ≡ true → cells ≡ record { store = store_with symbols opening; entries = [] } → combination ≡ z ∷ []
     → ((turns : ℕ) → Ends cells (block_alone symbols (source_of program) number (z ∷ []) turns) after result) → IsTold after.entries result out
     → Tells (iteration_alone program symbols number combination opening turns) out
 alone-tells program symbols number combination opening turns cells after z result out form cells-is given ends told =

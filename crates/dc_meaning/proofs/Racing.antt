@@ -4,6 +4,7 @@ use Rattle.std.proofs.Common.{◌≡◌, ℕ, zero, suc, ◌+◌, false, arith, 
 use Rattle.std.specs.Prelude.{option_map, option_and_then, filter, filter_map, flat_map, ℤ, is_none, if◌then◌else◌}
 use Rattle.std.proofs.lemmas.Option.{none-some, same_Some}
 use Rattle.dc_int.specs.declared.access.ElementId.{ElementId}
+use Rattle.dc_int.specs.declared.fault.Why.{Why}
 use Rattle.dc_int.specs.declared.variable.Locality.{Locality}
 use Rattle.dc_int.specs.Entries.{Entry, Undefines, store_after}
 use Rattle.dc_int.specs.Store.{Store, elements_of}
@@ -16,12 +17,13 @@ use Rattle.dc_code.specs.Troubles.{Trouble, ended}
 use Rattle.dc_meaning.specs.declared.judge.Bad as code
 use Rattle.dc_code.specs.Pairs.{first_clash, pair}
 use Rattle.dc_code.specs.Verdicts.{Verdict, in_iteration, race, race_in, race_among, first_of, judged, verdict, seen}
-use Rattle.dc_meaning.specs.Judging.{IsPlainly, IsMarked, IsOrdered, IsJudged, combination, alone_passages, runs_of, bad_of, store_behind}
-use Rattle.dc_meaning.specs.Marks.{Named, Marks, blank_marks, marked_runs, named_from, forget_from}
+use Rattle.dc_meaning.specs.Judging.{IsDone, IsPlainly, IsMarked, IsOrdered, IsJudged, combination, alone_passages, runs_of, bad_of, store_behind}
+use Rattle.dc_plain.specs.Marks.{Named, Marks, blank_marks, marked_runs, named_from, forget_from}
 use Rattle.dc_meaning.specs.Pairing.{between_plain}
-use Rattle.dc_meaning.specs.Plainly.{plain}
-use Rattle.dc_meaning.proofs.Forgetting.{forgotten-is}
-use Rattle.dc_meaning.proofs.Scanning.{marks-name}
+use Rattle.dc_plain.specs.Plainly.{plain}
+use Rattle.dc_plain.specs.Views.{View}
+use Rattle.dc_plain.proofs.Forgetting.{forgotten-is}
+use Rattle.dc_plain.proofs.Scanning.{marks-name}
 
 -- ---- the race, by the pair that is named
 
@@ -240,3 +242,22 @@ judged-met parts store active said before after bad (at, bad_is, k, at_k, counte
   where
     none-before : 0 + k ≡ k
     none-before = omega arith
+
+-- ---- two iterations in succession
+
+-- nothing runs behind the last one
+none-behind : (parts : Loop) (passage : Passage) (trouble : Option Trouble)
+    → (if is_none trouble then order parts passage.orders passage.store [] else nothing_done passage.store passage.orders trouble).runs ≡ []
+none-behind parts passage None = refl
+none-behind parts passage (Some trouble) = refl
+
+-- What two iterations did, the first of which ended well, is an order of them.
+pub two-runs : (parts : Loop) (store : Store) (first second : ℤ) (one two : View) (met : Option (Why × ℕ)) → IsDone (parts.block store [] (combination first)) one None
+    → IsDone (parts.block one.store [] (combination second)) two met → (order parts [] store (combination first ∷ combination second ∷ [])).runs ≡ one.entries ∷ two.entries ∷ []
+two-runs parts store first second one two met done_first done_second =
+    let here = parts.block store [] (combination first) in
+    let later = parts.block one.store [] (combination second) in
+    let rest = λ (orders : Orders) (after : Store). order parts orders after (combination second ∷ []) in
+    ap (λ t. here.entries ∷ (if is_none t then rest here.orders here.store else nothing_done here.store here.orders t).runs) done_first.trouble
+    ∙ (λ i. sym done_first.entries i ∷ (rest (done_first.orders i) (sym done_first.store i)).runs)
+    ∙ (λ i. one.entries ∷ sym done_second.entries i ∷ none-behind parts later later.trouble i)

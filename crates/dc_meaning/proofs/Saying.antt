@@ -8,9 +8,9 @@ use Rattle.dc_meaning.specs.declared.judge.Bad.{Bad}
 use Rattle.dc_meaning.specs.declared.judge.Told.{Told}
 use Rattle.dc_meaning.specs.declared.plain.PlainVerdict.{PlainVerdict}
 use Rattle.dc_meaning.specs.Judging.{IsMarked, combination, runs_of, bad_of, told_of}
-use Rattle.dc_meaning.specs.Marks.{Marks}
+use Rattle.dc_plain.specs.Marks.{Marks}
 use Rattle.dc_meaning.specs.PlainVerdicts.{IsSaid}
-use Rattle.dc_meaning.specs.Views.{states_in}
+use Rattle.dc_plain.specs.Views.{states_in}
 use Rattle.dc_meaning.proofs.Racing.{verdict-is}
 
 pub said-bad : (parts : Loop) (store : Store) (active : List ℤ) (before after : Marks) (bad : Bad) → IsMarked parts store active before after (Some bad)

@@ -1,40 +1,60 @@
--- How the walker stores the value of an assignment.
-use Rattle.std.proofs.Common.{◌≡◌, ℕ, suc, ◌+◌, ◌-◌, ◌*◌, ◌<◌, true, List, [], ◌∷◌, map, get_or, Option, Some, refl, sym, ap, subst, ◌∙◌, arith}
-use Rattle.std.proofs.lemmas.Int.{ints}
-use Rattle.std.proofs.lemmas.Bool.{and_parts}
-use Rattle.std.specs.Int.{int_gap}
-use Rattle.std.specs.List.{range_with_len}
-use Rattle.std.specs.Prelude.{Result, Ok, Err, ℤ, pos, ◌+ℤ◌, option_map}
+-- How the walker stores the values of assignments.
+use Rattle.std.proofs.Common.{◌≡◌, ℕ, zero, suc, ◌+◌, ◌-◌, ◌<◌, ◌≤◌, Bool, true, false, List, [], ◌∷◌, map, length, drop, Option, Some, refl, sym, ap, subst, ◌∙◌, arith}
+use Rattle.std.proofs.lemmas.Bool.{false≢true}
+use Rattle.std.specs.List.{range_with_len, list_all}
+use Rattle.std.specs.Prelude.{Result, Ok, Err, ℤ, zip, option_map, IsTrue}
 use Rattle.dc_int.specs.declared.access.ElementId.{ElementId}
-use Rattle.dc_int.specs.declared.kind.Kind.{Kind}
 use Rattle.dc_int.specs.Entries.{Defines}
-use Rattle.dc_int.specs.Kinds.{wrapped}
-use Rattle.dc_int.specs.Sorts.{whole, fitted}
-use Rattle.dc_int.specs.Store.{elements_in}
+use Rattle.dc_int.specs.Sorts.{Sort, fitted}
+use Rattle.dc_int.specs.Store.{Bounds, elements_in}
 use Rattle.dc_code.specs.Troubles.{Slots}
+use Rattle.dc_plain.specs.Views.{View, noted}
 use Rattle.dc_tree.specs.declared.expr.Expr.{Expr}
-use Rattle.dc_tree.specs.Entities.{Entity, outside, Scope, entity}
-use Rattle.dc_tree.specs.SmallPrograms.{is_vector, is_small, is_small_subscript, is_small_target}
-use Rattle.dc_tree.specs.Statements.{Name}
+use Rattle.dc_tree.specs.BuiltPrograms.{is_held, is_held_target}
+use Rattle.dc_tree.specs.Statements.{Name, Target}
+use Rattle.dc_tree.specs.Entities.{Entity, outside, slots, dummy, constant, function, subroutine, reduction, nothing, Scope}
 use Rattle.dc_tree.specs.Syntax.{Tree, tree}
+use Rattle.dc_tree.specs.Typing.{sort_of_entity}
 use Rattle.dc_meaning.specs.declared.stop.Stop.{Stop}
 use Rattle.dc_meaning.specs.Acts as acts
-use Rattle.dc_meaning.specs.Acts.{Act, Place, outer, just, ◌>>=◌, for_each}
-use Rattle.dc_meaning.specs.Actions.{Flow, on, ◌>>◌}
+use Rattle.dc_meaning.specs.Acts.{Act, Place, outer, just, wrong, ◌>>=◌, for_each}
+use Rattle.dc_meaning.specs.Actions.{Flow, on, ◌>>◌, assignment}
+use Rattle.dc_meaning.specs.Gathering.{places_from}
 use Rattle.dc_meaning.specs.Places.{whole_of, element_at}
-use Rattle.dc_meaning.specs.Storing.{stored, assigned_whole, assigned, places_from, filled}
+use Rattle.dc_meaning.specs.Storing.{stored, assigned_whole, assigned_at, assigned, filled, listed, listed_whole}
 use Rattle.dc_meaning.specs.Values.{Callee, value, all_values}
-use Rattle.dc_meaning.specs.Walking.{View, noted, Walks}
-use Rattle.dc_meaning.proofs.Walking.{acts-then, walks-as, walks-then, walks-bad}
-use Rattle.dc_meaning.proofs.Valuing.{vector-sort, subscript-small}
+use Rattle.dc_meaning.specs.Walking.{Stays}
+use Rattle.dc_meaning.proofs.Walking.{acts-then, stays-just, stays-then, stays-bad, stays-as}
+use Rattle.dc_meaning.proofs.Gathering.{count-step}
 
 abbrev pub goes_on : Unit {0} → Flow
 goes_on done = on
 
--- ---- element by element
-
 abbrev at : ℕ → ℕ → ElementId
 at variable position = record { variable = variable; position = position }
+
+abbrev pub is_reduced : Entity → Bool
+is_reduced (reduction variable op sort bounds) = true
+is_reduced other = false
+
+-- an element is defined
+pub stored-one : {own : Slots} (view : View) (line : ℕ) (x : ElementId) (z : ℤ) → Stays (λ (done : Unit {0}). done) own view (λ call. acts.store line (outer x) z) (noted (Defines x z line) view) (Ok tt)
+stored-one view line x z = record { each = λ turns. record { answers = λ call. refl } }
+
+-- nothing is left to be stored
+abbrev pub all-stored : Callee → Act Flow
+all-stored call = just on
+
+pub on-just : {own : Slots} {view : View} → Stays goes_on own view (λ call. just on) view (Ok tt)
+on-just = stays-just tt (λ call. refl)
+
+-- an element is defined, and then what is left
+pub stored-then : {own : Slots} {view next after : View} {r : Result (Unit {0}) Stop} (line : ℕ) (x : ElementId) (z : ℤ) (rest : Callee → Act Flow) → next ≡ noted (Defines x z line) view
+    → Stays goes_on own next rest after r → Stays goes_on own view (λ call. acts.store line (outer x) z >>= (λ done. rest call)) after r
+stored-then {own = own} {view = view} {after = after} {r = r} line x z rest is walks =
+    stays-then (λ call done. rest call) (stored-one view line x z) (subst (λ v. Stays goes_on own v rest after r) is walks)
+
+-- ---- element by element
 
 filled-step : (line variable : ℕ) (z : ℤ) (count position : ℕ) → filled line variable z (suc count) position ≡ (acts.store line (outer (at variable position)) z >>= (λ done. filled line variable z count (position + 1)))
 filled-step line variable z count position =
@@ -43,27 +63,53 @@ filled-step line variable z count position =
     acts-then first (λ u. rest >>= (λ us. just (u ∷ us))) (λ done. just on)
     ∙ (λ i. first >>= (λ u. acts-then rest (λ us. just (u ∷ us)) (λ done. just on) i))
 
-stored-one : {own : Slots} (view : View) (line : ℕ) (x : ElementId) (z : ℤ) → Walks (λ (done : Unit {0}). done) own view (λ call. acts.store line (outer x) z) (noted (Defines x z line) view) (Ok tt)
-stored-one view line x z = record { answers = λ call turns. refl }
-
-pub filled-next : {own : Slots} {view after : View} {r : Result (Unit {0}) Stop} (line variable : ℕ) (z : ℤ) (size position : ℕ) → position < size
-    → Walks goes_on own (noted (Defines (at variable position) z line) view) (λ call. filled line variable z (size - (position + 1)) (position + 1)) after r
-    → Walks goes_on own view (λ call. filled line variable z (size - position) position) after r
-filled-next {view = view} line variable z size position below walks =
-    let count : size - position ≡ suc (size - (position + 1)) = omega (arith, below) in
-    walks-as (λ call. ap (λ n. filled line variable z n position) count ∙ filled-step line variable z (size - (position + 1)) position)
-    (walks-then (λ call done. filled line variable z (size - (position + 1)) (position + 1)) (stored-one view line (at variable position) z) walks)
-
 -- one more element is stored
-pub filled-on : {own : Slots} {view next after : View} {r : Result (Unit {0}) Stop} (line variable : ℕ) (z given : ℤ) (size position : ℕ) → position < size → given ≡ z
-    → next ≡ noted (Defines (at variable position) given line) view → Walks goes_on own next (λ call. filled line variable z (size - (position + 1)) (position + 1)) after r
-    → Walks goes_on own view (λ call. filled line variable z (size - position) position) after r
-filled-on {own = own} {view = view} {after = after} {r = r} line variable z given size position below same is walks =
-    filled-next line variable z size position below
-    (subst (λ v. Walks goes_on own v (λ call. filled line variable z (size - (position + 1)) (position + 1)) after r) (is ∙ ap (λ w. noted (Defines (at variable position) w line) view) same) walks)
+pub filled-on : {own : Slots} {view next after : View} {r : Result (Unit {0}) Stop} (line variable : ℕ) (z : ℤ) (size position : ℕ) → position < size
+    → next ≡ noted (Defines (at variable position) z line) view → Stays goes_on own next (λ call. filled line variable z (size - (position + 1)) (position + 1)) after r
+    → Stays goes_on own view (λ call. filled line variable z (size - position) position) after r
+filled-on line variable z size position below is walks =
+    stays-as (λ call. ap (λ n. filled line variable z n position) (count-step size position below) ∙ filled-step line variable z (size - (position + 1)) position)
+    (stored-then line (at variable position) z (λ call. filled line variable z (size - (position + 1)) (position + 1)) is walks)
 
-pub filled-none : {own : Slots} {view : View} (line variable : ℕ) (z : ℤ) (count position : ℕ) → count ≡ 0 → Walks goes_on own view (λ call. filled line variable z count position) view (Ok tt)
-filled-none line variable z count position none = walks-as (λ call. ap (λ n. filled line variable z n position) none) (record { answers = λ call turns. refl })
+pub filled-none : {own : Slots} {view : View} (line variable : ℕ) (z : ℤ) (count position : ℕ) → count ≡ 0 → Stays goes_on own view (λ call. filled line variable z count position) view (Ok tt)
+filled-none line variable z count position none = stays-as (λ call. ap (λ n. filled line variable z n position) none) on-just
+
+listed-step : (line variable : ℕ) (sort : Sort) (count position : ℕ) (z : ℤ) (rest : List ℤ)
+    → listed line variable sort (suc count) position (z ∷ rest) ≡ (acts.store line (outer (at variable position)) (fitted sort z) >>= (λ done. listed line variable sort count (position + 1) rest))
+listed-step line variable sort count position z rest =
+    let first = acts.store line (outer (at variable position)) (fitted sort z) in
+    let others = for_each (λ (w : Place × ℤ). acts.store line w.0 (fitted sort w.1)) (zip (places_from variable count (position + 1)) rest) in
+    acts-then first (λ u. others >>= (λ us. just (u ∷ us))) (λ done. just on)
+    ∙ (λ i. first >>= (λ u. acts-then others (λ us. just (u ∷ us)) (λ done. just on) i))
+
+-- one more value of a list is stored
+pub listed-on : {own : Slots} {view next after : View} {r : Result (Unit {0}) Stop} (line variable : ℕ) (sort : Sort) (size position : ℕ) (z : ℤ) (rest : List ℤ) → position < size
+    → next ≡ noted (Defines (at variable position) (fitted sort z) line) view
+    → Stays goes_on own next (λ call. listed line variable sort (size - (position + 1)) (position + 1) rest) after r
+    → Stays goes_on own view (λ call. listed line variable sort (size - position) position (z ∷ rest)) after r
+listed-on line variable sort size position z rest below is walks =
+    stays-as (λ call. ap (λ n. listed line variable sort n position (z ∷ rest)) (count-step size position below) ∙ listed-step line variable sort (size - (position + 1)) position z rest)
+    (stored-then line (at variable position) (fitted sort z) (λ call. listed line variable sort (size - (position + 1)) (position + 1) rest) is walks)
+
+-- there is no more place, or no more value
+pub listed-full : {own : Slots} {view : View} (line variable : ℕ) (sort : Sort) (count position : ℕ) (given : List ℤ) → count ≡ 0
+    → Stays goes_on own view (λ call. listed line variable sort count position given) view (Ok tt)
+listed-full line variable sort count position given none = stays-as (λ call. ap (λ n. listed line variable sort n position given) none) on-just
+
+pub listed-none : {own : Slots} {view : View} (line variable : ℕ) (sort : Sort) (count position : ℕ) → Stays goes_on own view (λ call. listed line variable sort count position []) view (Ok tt)
+listed-none line variable sort zero position = on-just
+listed-none line variable sort (suc count) position = on-just
+
+past : (given : List ℤ) (n : ℕ) → length given ≤ n → drop n given ≡ []
+past [] zero below = refl
+past [] (suc n) below = refl
+past (z ∷ given) zero below = absurd (omega (arith, below))
+past (z ∷ given) (suc n) below = past given n (omega (arith, below))
+
+pub listed-past : {own : Slots} {view : View} (line variable : ℕ) (sort : Sort) (count position : ℕ) (given : List ℤ) (n : ℕ) → length given ≤ n
+    → Stays goes_on own view (λ call. listed line variable sort count position (drop n given)) view (Ok tt)
+listed-past line variable sort count position given n below =
+    stays-as (λ call. ap (listed line variable sort count position) (past given n below)) (listed-none line variable sort count position)
 
 -- ---- a whole variable
 
@@ -71,83 +117,62 @@ for-each-just : {A B : Type 0} (f : A → B) (items : List A) → for_each (λ a
 for-each-just f [] = refl
 for-each-just f (a ∷ items) = ap (λ rest. rest >>= (λ bs. just (f a ∷ bs))) (for-each-just f items)
 
-pub vector-size : (size : ℕ) → elements_in ((pos 1, pos size) ∷ []) ≡ size
-vector-size size =
-    let gap : int_gap (pos 1) (pos size +ℤ pos 1) ≡ size = omega (arith, ints) in
-    let times : size * 1 ≡ size = omega arith in
-    ap (λ n. n * 1) gap ∙ times
+pub whole-places : (line variable : ℕ) (sort : Sort) (bounds : Bounds) → whole_of line (outside variable sort bounds) ≡ just (places_from variable (elements_in bounds) 0)
+whole-places line variable sort bounds = for-each-just (λ p. outer (at variable p)) (range_with_len 0 (elements_in bounds))
 
-pub vector-places : (line variable size : ℕ) → whole_of line (outside variable (whole Kind.K4) ((pos 1, pos size) ∷ [])) ≡ just (places_from variable size 0)
-vector-places line variable size =
-    ap (λ n. for_each (λ p. just (outer (at variable p))) (range_with_len 0 n)) (vector-size size) ∙ for-each-just (λ p. outer (at variable p)) (range_with_len 0 size)
+pub whole-assigned : (line variable : ℕ) (sort : Sort) (bounds : Bounds) (given : ℤ)
+    → assigned_whole line (outside variable sort bounds) given ≡ filled line variable (fitted sort given) (elements_in bounds) 0
+whole-assigned line variable sort bounds given = ap (λ places. places >>= stored line (outside variable sort bounds) given) (whole-places line variable sort bounds)
 
-pub vector-assigned : (line variable size : ℕ) (given z : ℤ) → z ≡ wrapped Kind.K4 given
-    → assigned_whole line (outside variable (whole Kind.K4) ((pos 1, pos size) ∷ [])) given ≡ filled line variable z size 0
-vector-assigned line variable size given z is =
-    ap (λ places. places >>= stored line (outside variable (whole Kind.K4) ((pos 1, pos size) ∷ [])) given) (vector-places line variable size) ∙ ap (λ w. filled line variable w size 0) (sym is)
-
-pub scalar-assigned : (line variable : ℕ) (given z : ℤ) → z ≡ wrapped Kind.K4 given → assigned_whole line (outside variable (whole Kind.K4) []) given ≡ filled line variable z 1 0
-scalar-assigned line variable given z is = ap (λ w. filled line variable w 1 0) (sym is)
+pub whole-listed : (line variable : ℕ) (sort : Sort) (bounds : Bounds) (given : List ℤ)
+    → listed_whole line (outside variable sort bounds) given ≡ listed line variable sort (elements_in bounds) 0 given
+whole-listed line variable sort bounds given =
+    ap (λ places. places >>= (λ ps. for_each (λ (w : Place × ℤ). acts.store line w.0 (fitted sort w.1)) (zip ps given) >> just on)) (whole-places line variable sort bounds)
 
 -- ---- an element
 
-element-is : (scope : Scope) (call : Callee) (line : ℕ) (variable : Entity) (t : Tree) (given : ℤ)
-    → assigned scope call line variable (Some (t ∷ [])) given
-    ≡ (value scope call line t >>= (λ s. element_at line variable (s ∷ []) >>= (λ place. stored line variable given (place ∷ []))))
-element-is scope call line variable t given =
-    let inner = λ (s : ℤ). element_at line variable (s ∷ []) >>= (λ place. just (place ∷ [])) in
-    acts-then (all_values scope call line (t ∷ [])) (λ ss. element_at line variable ss >>= (λ place. just (place ∷ []))) (stored line variable given)
-    ∙ acts-then (value scope call line t) (λ s. just (s ∷ [])) (λ ss. (element_at line variable ss >>= (λ place. just (place ∷ []))) >>= stored line variable given)
-    ∙ (λ i. value scope call line t >>= (λ s. acts-then (element_at line variable (s ∷ [])) (λ place. just (place ∷ [])) (stored line variable given) i))
+pub element-bad : {own : Slots} {view : View} {e : Stop} (line : ℕ) (variable : Entity) (subscripts : List ℤ) (given : ℤ)
+    → Stays outer own view (λ call. element_at line variable subscripts) view (Err e) → Stays goes_on own view (λ call. assigned_at line variable subscripts given) view (Err e)
+element-bad line variable subscripts given walks = stays-bad {A = Unit {0}} {tell = goes_on} (λ call place. stored line variable given (place ∷ [])) walks
 
-abbrev element-of : Scope → ℕ → Entity → Tree → ℤ → Callee → Act Flow
-element-of scope line variable t given call = assigned scope call line variable (Some (t ∷ [])) given
+pub element-walks : {own : Slots} {view after : View} (line : ℕ) (variable : Entity) (subscripts : List ℤ) (given : ℤ) (x : ElementId) → after ≡ noted (Defines x (fitted (sort_of_entity variable) given) line) view
+    → Stays outer own view (λ call. element_at line variable subscripts) view (Ok x) → Stays goes_on own view (λ call. assigned_at line variable subscripts given) after (Ok tt)
+element-walks {own = own} {view = view} line variable subscripts given x is first =
+    stays-then (λ call place. stored line variable given (place ∷ [])) first
+    (subst (λ v. Stays goes_on own view (λ call. stored line variable given (outer x ∷ [])) v (Ok tt)) (sym is) (record { each = λ turns. record { answers = λ call. refl } }))
 
-module _ {own : Slots} {before : View} (scope : Scope) (line : ℕ) (variable : Entity) (t : Tree) (given : ℤ) where
-  pub subscript-bad : {after : View} {stop : Stop} → Walks (λ (z : ℤ). z) own before (λ call. value scope call line t) after (Err stop) → Walks goes_on own before (element-of scope line variable t given) after (Err stop)
-  subscript-bad walks =
-      walks-as (λ call. element-is scope call line variable t given)
-      (walks-bad {A = Unit {0}} {tell = goes_on} (λ call s. element_at line variable (s ∷ []) >>= (λ place. stored line variable given (place ∷ []))) walks)
+-- ---- any target
 
-  pub element-bad : {between : View} {stop : Stop} (s : ℤ) → Walks (λ (z : ℤ). z) own before (λ call. value scope call line t) between (Ok s)
-      → Walks outer own between (λ call. element_at line variable (s ∷ [])) between (Err stop) → Walks goes_on own before (element-of scope line variable t given) between (Err stop)
-  element-bad s first walks =
-      walks-as (λ call. element-is scope call line variable t given)
-      (walks-then (λ call s. element_at line variable (s ∷ []) >>= (λ place. stored line variable given (place ∷ []))) first
-      (walks-bad {A = Unit {0}} {tell = goes_on} (λ call place. stored line variable given (place ∷ [])) walks))
+-- by the values of its subscripts
+pub assigned-subscripts : (scope : Scope) (call : Callee) (line : ℕ) (variable : Entity) (trees : List Tree) (given : ℤ)
+    → assigned scope call line variable (Some trees) given ≡ (all_values scope call line trees >>= (λ subscripts. assigned_at line variable subscripts given))
+assigned-subscripts scope call line variable trees given =
+    acts-then (all_values scope call line trees) (λ subscripts. element_at line variable subscripts >>= (λ place. just (place ∷ []))) (stored line variable given)
+    ∙ (λ i. all_values scope call line trees >>= (λ subscripts. acts-then (element_at line variable subscripts) (λ place. just (place ∷ [])) (stored line variable given) i))
 
-  pub element-walks : {between after : View} (s z : ℤ) (x : ElementId) → is_vector variable ≡ true → z ≡ wrapped Kind.K4 given → after ≡ noted (Defines x z line) between
-      → Walks (λ (z : ℤ). z) own before (λ call. value scope call line t) between (Ok s) → Walks outer own between (λ call. element_at line variable (s ∷ [])) between (Ok x)
-      → Walks goes_on own before (element-of scope line variable t given) after (Ok tt)
-  element-walks {between = between} s z x vector wraps is first second =
-      walks-as (λ call. element-is scope call line variable t given)
-      (walks-then (λ call s. element_at line variable (s ∷ []) >>= (λ place. stored line variable given (place ∷ []))) first
-      (walks-then (λ call place. stored line variable given (place ∷ [])) second
-      (subst (λ v. Walks goes_on own between (λ call. stored line variable given (outer x ∷ [])) v (Ok tt)) (sym is) last)))
-    where
-      last : Walks goes_on own between (λ call. stored line variable given (outer x ∷ [])) (noted (Defines x z line) between) (Ok tt)
-      last =
-          walks-as (λ call. ap (λ w. for_each (λ place. acts.store line place w) (outer x ∷ []) >> just on) (ap (λ sort. fitted sort given) (vector-sort variable vector) ∙ sym wraps))
-          (record { answers = λ call turns. refl })
+-- by the subscripts as the code has them
+pub with-subscripts : (scope : Scope) (call : Callee) (line : ℕ) (variable : Entity) (subscripts : Option (List Expr)) (exprs given : List Expr) (z : ℤ) → subscripts ≡ Some exprs → given ≡ exprs
+    → assigned scope call line variable (option_map (map tree) subscripts) z ≡ (all_values scope call line (map tree given) >>= (λ values. assigned_at line variable values z))
+with-subscripts scope call line variable subscripts exprs given z is same =
+    ap (λ s. assigned scope call line variable (option_map (map tree) s) z) is
+    ∙ assigned-subscripts scope call line variable (map tree exprs) z
+    ∙ ap (λ es. all_values scope call line (map tree es) >>= (λ values. assigned_at line variable values z)) (sym same)
 
--- ---- targets
+pub held-subscripts : (name : Name) (subscripts : Option (List Expr)) (exprs given : List Expr) → subscripts ≡ Some exprs → given ≡ exprs
+    → IsTrue (is_held_target (record { name = name; subscripts = option_map (map tree) subscripts })) → IsTrue (list_all is_held (map tree given))
+held-subscripts name subscripts exprs given is same held =
+    subst (λ es. IsTrue (list_all is_held (map tree es))) (sym same)
+    (subst (λ s. IsTrue (is_held_target (record { name = name; subscripts = option_map (map tree) s }))) is held)
 
--- the one subscript of a target
-pub target-one : (scope : Scope) (text : Name) (xs : List Expr) → is_small_target scope true (record { name = text; subscripts = Some (map tree xs) }) ≡ true
-    → (x : Expr) × ((xs ≡ x ∷ []) × ((is_vector (entity scope text) ≡ true) × (is_small scope (tree x) ≡ true)))
-target-one scope text [] e = cc
-target-one scope text (x ∷ []) e =
-    let both = and_parts (is_vector (entity scope text)) (is_small_subscript scope (tree x)) e in
-    (x, (refl, (both.0, subscript-small scope (tree x) both.1)))
-target-one scope text (x ∷ y ∷ rest) e = cc
+-- ---- an assignment, to what is no REDUCE variable
 
--- the same, of the target that the code has
-pub target-item : (scope : Scope) (text : Name) (subscripts : Option (List Expr)) (xs shown : List Expr) (item : Expr) → subscripts ≡ Some xs → shown ≡ xs → item ≡ get_or shown 0 item
-    → is_small_target scope true (record { name = text; subscripts = option_map (map tree) subscripts }) ≡ true
-    → (option_map (map tree) subscripts ≡ Some (tree item ∷ [])) × ((is_vector (entity scope text) ≡ true) × (is_small scope (tree item) ≡ true))
-target-item scope text subscripts xs shown item is seen item-is small =
-    let one = target-one scope text xs (sym (ap (λ s. is_small_target scope true (record { name = text; subscripts = option_map (map tree) s })) is) ∙ small) in
-    let same : item ≡ one.0 = item-is ∙ ap (λ ys. get_or ys 0 item) (seen ∙ one.1.0) in (
-      ap (option_map (map tree)) (is ∙ ap (λ ys. Some ys) one.1.0) ∙ ap (λ e. Some (tree e ∷ [])) (sym same),
-      (one.1.1.0, ap (λ e. is_small scope (tree e)) same ∙ one.1.1.1),
-    )
+pub assignment-plain : (scope : Scope) (call : Callee) (line : ℕ) (target : Target) (right : Tree) (variable : Entity) → is_reduced variable ≡ false
+    → assignment scope call line target right variable ≡ (value scope call line right >>= (λ given. assigned scope call line variable target.subscripts given))
+assignment-plain scope call line target right (outside number sort bounds) plain = refl
+assignment-plain scope call line target right (slots group sort bounds) plain = refl
+assignment-plain scope call line target right (dummy place sort) plain = refl
+assignment-plain scope call line target right (constant sort z) plain = refl
+assignment-plain scope call line target right (function number sort) plain = refl
+assignment-plain scope call line target right (subroutine number intents) plain = refl
+assignment-plain scope call line target right (reduction number op sort bounds) plain = absurd (false≢true (sym plain))
+assignment-plain scope call line target right nothing plain = refl

@@ -1,11 +1,11 @@
--- A loop of a main program of today's form is one that the plain judge visits.
+-- A loop of a program that can be run is one that the plain judge visits.
 use Rattle.std.proofs.Common.{◌≡◌, ℕ, suc, Bool, true, false, List, [], ◌∷◌, map, Option, Some, None, refl, sym, ap, subst, ◌∙◌}
 use Rattle.std.specs.Prelude.{Result, Ok, Err, ℤ, slice_get, if◌then◌else◌, bytes_eq}
 use Rattle.dc_int.specs.declared.variable.Locality.{Locality}
 use Rattle.dc_int.specs.Entries.{store_after}
+use Rattle.dc_int.specs.Sorts.{Sort, whole}
 use Rattle.dc_int.specs.Store.{Store, value_at}
-use Rattle.dc_int.specs.Sorts.{Sort}
-use Rattle.dc_code.specs.Computation.{over, without_entries, done}
+use Rattle.dc_code.specs.Computation.{over}
 use Rattle.dc_code.specs.Inner.{judging, nested_loop, inner}
 use Rattle.dc_code.specs.Laws.{NeverPauses}
 use Rattle.dc_code.specs.Loops.{Form, Passage, header_of}
@@ -13,25 +13,31 @@ use Rattle.dc_code.specs.Passages.{Entering, through}
 use Rattle.dc_code.specs.Troubles.{Failure, Computing}
 use Rattle.dc_code.proofs.Passages.{through-over}
 use Rattle.dc_code.proofs.Runs.{replayed}
+use Rattle.dc_plain.specs.Views.{View}
 use Rattle.dc_tree.specs.declared.symbols.Role as roles
 use Rattle.dc_tree.specs.declared.symbols.Symbol.{Symbol}
 use Rattle.dc_tree.specs.Blocks.{Line, Items, Source}
-use Rattle.dc_tree.specs.Entities.{Entity, Scope, entity, entity_in, result_in, procedure_entity, symbols_in, outer_names, main_scope}
-use Rattle.dc_tree.specs.SmallPrograms.{with_index, is_small_program, is_small_block}
-use Rattle.dc_tree.specs.Statements.{Name}
+use Rattle.dc_tree.specs.BuiltPrograms.{are_built_symbols, is_built}
+use Rattle.dc_tree.specs.Entities.{Entity, slots, Scope, entity, entity_in, result_in, procedure_entity, symbols_in, outer_names, main_scope}
+use Rattle.dc_tree.specs.Statements.{Name, Ranging}
+use Rattle.dc_meaning.specs.declared.header.Limits.{Limits}
 use Rattle.dc_meaning.specs.declared.stop.Stop.{Stop}
 use Rattle.dc_meaning.specs.Alone.{nth_loop, index_name, block_alone, Ends}
 use Rattle.dc_meaning.specs.Concurrent.{Outside, Concurrent, Surroundings, is_reduction}
-use Rattle.dc_meaning.specs.Execution.{exec_all}
+use Rattle.dc_meaning.specs.Execution.{span_of, exec_all}
 use Rattle.dc_meaning.specs.Headers.{localities_of, form_of}
-use Rattle.dc_meaning.specs.Judging.{IsDoneBy, fresh, IsRunBy, IsPlainly, combination}
+use Rattle.dc_meaning.specs.Judging.{IsDoneBy, fresh, IsRunBy, IsPlainly}
 use Rattle.dc_meaning.specs.Programs.{surroundings, program_forms}
-use Rattle.dc_meaning.specs.Visiting.{index_values, IsVisitable, loop_parts}
-use Rattle.dc_meaning.specs.Walking.{View}
-use Rattle.dc_meaning.proofs.Heading.{opened-is}
-use Rattle.dc_meaning.proofs.Looping.{small-concurrent, LoopAt, block-form}
-use Rattle.dc_meaning.proofs.Passing.{form-is, loops-in, loop-at, loop-ends, loop-small, no-copies, symbols-small, passes-well, passes-badly}
-use Rattle.dc_meaning.proofs.Own.{Any, AnyElement, any-own, only-quiet, block-own, frame-only}
+use Rattle.dc_meaning.specs.Visiting.{span_with, OpensBy, first_index, IsVisitable, loop_parts}
+use Rattle.dc_meaning.specs.Walking.{Stays}
+use Rattle.dc_meaning.specs.WalkScope.{kind_of_index, index_scope}
+use Rattle.dc_meaning.proofs.Doing.{May, Any, Only, only-quiet}
+use Rattle.dc_meaning.proofs.Heading.{opens-by}
+use Rattle.dc_meaning.proofs.Looping.{concurrent-with, LoopAt, block-form}
+use Rattle.dc_meaning.proofs.Own.{OwnEntity, OwnTarget, target-read, frame-only}
+use Rattle.dc_meaning.proofs.OwnBlocks.{block-own}
+use Rattle.dc_meaning.proofs.OwnScopes.{anything, anything-own, inner-good}
+use Rattle.dc_meaning.proofs.Passing.{form-is, loops-in, loop-at, loop-ends, loop-built, no-copies, built-source, passes-well, passes-badly}
 use Rattle.dc_meaning.proofs.Walking.{seen-run}
 
 -- ---- an iteration
@@ -84,6 +90,7 @@ none-reduced all number (symbol ∷ rest) name = by symbol.role refl (none-reduc
     by (roles.Role.Dummy place logical kind intent) is behind others = rw is others
     by (roles.Role.Result logical kind) is behind others = rw is others
 
+-- Without localities of its own, all variables of a loop have unspecified locality.
 module _ (within : Surroundings) (symbols : List Symbol) (loop : Concurrent) (none : loop.locality ≡ []) (around : loop.around ≡ main_scope symbols) where
   pub all-plain : (number : ℕ) (found : Option Outside) → slice_get within.outsides number ≡ found → (localities_of within loop).locality number ≡ Locality.Plain
   all-plain number None is = rw is refl
@@ -93,9 +100,17 @@ module _ (within : Surroundings) (symbols : List Symbol) (loop : Concurrent) (no
   none-passed number None is = rw is refl
   none-passed number (Some variable) is = rw (is, around) (none-reduced symbols 0 (symbols_in 0 symbols) variable.name)
 
+-- ---- what a name of the block stands for
+
+-- Where each name of a program may be assigned to, those of a block may, whose index is an entity of the iteration.
+pub block-names : (may : May) (symbols : List Symbol) (index : Name) → ((text : Name) → OwnTarget may (entity (main_scope symbols) text))
+    → (text : Name) → OwnTarget may (entity (index_scope symbols index) text)
+block-names may symbols index own text =
+    inner-good (OwnTarget may) ((index, slots 0 (whole (kind_of_index symbols index)) []) ∷ []) 1 (main_scope symbols) (tt, tt) own text
+
 -- ---- a loop of the main program
 
-module _ (symbols : List Symbol) (source : Source) (turns number : ℕ) (head : Line) (block : Items) (form : is_small_program symbols source ≡ true)
+module _ (symbols : List Symbol) (source : Source) (turns number : ℕ) (head : Line) (block : Items) (form : is_built symbols source ≡ true)
     (is : Some (head, block) ≡ nth_loop number source.body) where
   abbrev pub within : Surroundings
   within = surroundings symbols source turns
@@ -104,22 +119,29 @@ module _ (symbols : List Symbol) (source : Source) (turns number : ℕ) (head : 
   at = loop-at symbols source form number turns head block is
 
   abbrev pub found : Concurrent
-  found = small-concurrent (main_scope symbols) at.counted head block at.small.ranging
+  found = concurrent-with (main_scope symbols) at.counted head block at.built.ranging
 
   pub form-here : program_forms symbols source turns number [] ≡ form_of within found []
   form-here = form-is symbols source turns number [] (Some found) at.at
 
-  abbrev scope-here : Scope
-  scope-here = with_index (main_scope symbols) (index_name head.says)
+  abbrev pub scope-here : Scope
+  scope-here = index_scope symbols (index_name head.says)
 
-  pub scope-small : is_small_block (with_index (main_scope symbols) (index_name head.says)) block ≡ true
-  scope-small = ap (λ s. is_small_block (with_index (main_scope symbols) (index_name s)) block) at.small.is ∙ at.small.block
+  pub names-here : are_built_symbols symbols ≡ true
+  names-here = (built-source symbols source form).names
+
+  -- What the block may do, an iteration may.
+  pub alone-only : (may : May) → ((text : Name) → OwnTarget may (entity scope-here text)) → (z : ℤ) → Only may Any (block_alone symbols source number (z ∷ []) turns)
+  alone-only may own z =
+      subst (λ (c : Computing ℕ). Only may Any c)
+      (sym (ap (λ (f : Form). f.block [] (z ∷ [])) form-here ∙ block-form within symbols at.counted head block at.built z))
+      (frame-only may ((Some z ∷ []) ∷ []) within.turns (exec_all scope-here within.call (suc at.counted) block) (λ flow left. left)
+      (block-own may scope-here own within.call (suc at.counted) block at.built.block))
 
   pub block-plain : (z : ℤ) → NeverPauses (block_alone symbols source number (z ∷ []) turns)
   block-plain z =
-      subst (λ (c : Computing ℕ). NeverPauses c) (sym (ap (λ (f : Form). f.block [] (z ∷ [])) form-here ∙ block-form within symbols at.counted head block at.small z))
-      (only-quiet AnyElement Any _ (frame-only AnyElement ((Some z ∷ []) ∷ []) within.turns (exec_all scope-here within.call (suc at.counted) block) (λ flow left. left)
-      (block-own AnyElement scope-here (λ text. any-own (entity scope-here text)) within.call (suc at.counted) block scope-small)))
+      only-quiet anything Any (block_alone symbols source number (z ∷ []) turns) (λ event no. no)
+      (alone-only anything (block-names anything symbols (index_name head.says) (anything-own symbols names-here)) z)
 
   abbrev pub entering : Entering
   entering inside left around here orders = inner judging (nested_loop judging (program_forms symbols source turns) 63 inside around) left here orders
@@ -127,11 +149,11 @@ module _ (symbols : List Symbol) (source : Source) (turns number : ℕ) (head : 
   pub passage-is : (store : Store) (z : ℤ) → (loop_parts symbols source turns number).block store [] (z ∷ []) ≡ through entering store [] (block_alone symbols source number (z ∷ []) turns)
   passage-is store z = λ i. through entering store [] ((program_forms symbols source turns number []).block (map (value_at store) (no-copies symbols source form number turns i)) (z ∷ []))
 
-  runs-by : IsRunBy (loop_parts symbols source turns number) (with_index (main_scope symbols) (index_name head.says)) block
+  runs-by : IsRunBy (loop_parts symbols source turns number) scope-here block
   runs-by = record {
-    runs = λ z store after result walks.
+    runs = λ z store after result stays.
         subst (λ (p : Passage). IsDoneBy p after result) (sym (passage-is store z))
-        (done-by entering store (block_alone symbols source number (z ∷ []) turns) (block-plain z) after result (loop-ends symbols source form number head block z turns is walks));
+        (done-by entering store (block_alone symbols source number (z ∷ []) turns) (block-plain z) after result (loop-ends symbols source form number head block z turns is stays));
   }
 
   plainly-by : IsPlainly (loop_parts symbols source turns number)
@@ -144,18 +166,25 @@ module _ (symbols : List Symbol) (source : Source) (turns number : ℕ) (head : 
         ap (λ (p : Passage). p.store) run ∙ replayed store (block_alone symbols source number (z ∷ []) turns) ∙ ap (λ (p : Passage). store_after p.entries store) (sym run);
   }
 
-  opens-by : (store : Store) (left : ℕ) → over store (header_of (loop_parts symbols source turns number).form left)
-      ≡ without_entries store (done (record { iterations = map combination (index_values head.says); turns = left }))
-  opens-by store left =
-      ap (λ (f : Form). over store (header_of f left)) form-here ∙ ap (over store) (opened-is within symbols at.counted head block at.small at.whole left)
+  reads-own : (text : Name) → OwnEntity Any (entity (main_scope symbols) text)
+  reads-own text = target-read anything (entity (main_scope symbols) text) (anything-own symbols names-here text)
+
+  opens-at : (ranging : Ranging) (store : Store) (left : ℕ) (after : View) (result : Result Limits Stop) → first_index head.says ranging
+      → Stays span_with [] (fresh store) (λ call. span_of (main_scope symbols) call head.line (whole (kind_of_index symbols ranging.name)) ranging) after result
+      → OpensBy head.line left store after (over store (header_of (loop_parts symbols source turns number).form left)).reached result
+  opens-at ranging store left after result first stays =
+      let same : at.built.ranging ≡ ranging = subst (λ s. first_index s ranging) at.built.is first in
+      subst (λ (f : Form). OpensBy head.line left store after (over store (header_of f left)).reached result) (sym form-here)
+      (opens-by within symbols at.counted head block at.built reads-own store left after result
+      (subst (λ (r : Ranging). Stays span_with [] (fresh store) (λ call. span_of (main_scope symbols) call head.line (whole (kind_of_index symbols r.name)) r) after result) (sym same) stays))
 
 -- A loop of the program at its number.
-pub visitable : (symbols : List Symbol) (source : Source) (turns number : ℕ) (head : Line) (block : Items) → is_small_program symbols source ≡ true → nth_loop number source.body ≡ Some (head, block)
-    → IsVisitable (loop_parts symbols source turns number) symbols head.says block
+pub visitable : (symbols : List Symbol) (source : Source) (turns number : ℕ) (head : Line) (block : Items) → is_built symbols source ≡ true → nth_loop number source.body ≡ Some (head, block)
+    → IsVisitable (loop_parts symbols source turns number) symbols head.line head.says block
 visitable symbols source turns number head block form is = record {
-  names = symbols-small symbols source form number;
-  small = loop-small symbols source form number head block (sym is);
+  names = names-here symbols source turns number head block form (sym is);
+  built = loop-built symbols source form number head block (sym is);
   run = runs-by symbols source turns number head block form (sym is);
-  opens = opens-by symbols source turns number head block form (sym is);
+  opens = opens-at symbols source turns number head block form (sym is);
   plainly = plainly-by symbols source turns number head block form (sym is);
 }

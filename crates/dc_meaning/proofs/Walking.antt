@@ -1,15 +1,18 @@
 -- The laws of what a computation does to a view.
-use Rattle.std.proofs.Common.{◌≡◌, [], ◌∷◌, refl, sym, ap, subst, ◌∙◌, append_assoc, append-nil}
+use Rattle.std.proofs.Common.{◌≡◌, ℕ, [], ◌∷◌, refl, sym, ap, subst, ◌∙◌, append_assoc, append-nil}
 use Rattle.std.specs.Prelude.{Result, Ok, Err}
 use Rattle.std.specs.Result.{IsErrAnd}
+use Rattle.dc_int.specs.declared.fault.FaultKind.{FaultKind}
+use Rattle.dc_int.specs.declared.fault.Why.{Why}
 use Rattle.dc_int.specs.Entries.{Entry, Reads, Defines, Undefines, Contributes}
 use Rattle.dc_int.specs.Store.{value_at, bounds_of}
 use Rattle.dc_code.specs.Computation.{Computation, give, fail, read, define, undefine, contribute, ask, pause, sequence, Reached, done, bad, paused, Run, over, behind_entries}
 use Rattle.dc_code.specs.Troubles.{Computing, Slots}
 use Rattle.dc_meaning.specs.declared.stop.Stop.{Stop}
-use Rattle.dc_meaning.specs.Acts.{State, Act, ◌>>=◌}
+use Rattle.dc_meaning.specs.Acts.{State, Act, ◌>>=◌, just, wrong}
 use Rattle.dc_meaning.specs.Values.{Callee}
-use Rattle.dc_meaning.specs.Walking.{View, noted, seen_over, behind_view, state_in, Answers, Walks}
+use Rattle.dc_plain.specs.Views.{View, noted}
+use Rattle.dc_meaning.specs.Walking.{seen_over, behind_view, state_in, Answers, Walks, Stays}
 
 -- ---- first this, then that
 
@@ -62,59 +65,85 @@ behind-bad told tell before after c next state (Stop.Failed why line) walks = se
 behind-bad told tell before after c next state Stop.NoMemory walks = tt
 
 -- an act behind another that ended well
-pub walks-then : {A B C D : Type 0} {tell : A → B} {told : C → D} {own : Slots} {before between after : View} {first : Callee → Act D} {a : C} {r : Result A Stop} (next : Callee → D → Act B)
-    → Walks told own before first between (Ok a) → Walks tell own between (λ call. next call (told a)) after r
-    → Walks tell own before (λ call. first call >>= next call) after r
-walks-then {tell = tell} {told = told} {own = own} {before = before} {between = between} {after = after} {first = first} {a = a} {r = r} next one more =
+pub walks-then : {A B C D : Type 0} {tell : A → B} {told : C → D} {state mid left : State} {before between after : View} {first : Callee → Act D} {a : C} {r : Result A Stop} (next : Callee → D → Act B)
+    → Walks told state before first mid between (Ok a) → Walks tell mid between (λ call. next call (told a)) left after r
+    → Walks tell state before (λ call. first call >>= next call) left after r
+walks-then {tell = tell} {told = told} {state = state} {mid = mid} {left = left} {before = before} {between = between} {after = after} {first = first} {a = a} {r = r} next one more =
     record {
-      answers = λ call turns.
-          behind-done tell before between after (first call (state_in own turns)) (told a, state_in own turns) (λ w. next call w.0 w.1) (state_in own turns) r
-          (one.answers call turns) (more.answers call turns);
+      answers = λ call.
+          behind-done tell before between after (first call state) (told a, mid) (λ w. next call w.0 w.1) left r (one.answers call) (more.answers call);
     }
 
 -- and behind one that ended badly
-pub walks-bad : {A B C D : Type 0} {tell : A → B} {told : C → D} {own : Slots} {before after : View} {first : Callee → Act D} {e : Stop} (next : Callee → D → Act B)
-    → Walks told own before first after (Err e) → Walks tell own before (λ call. first call >>= next call) after (Err e)
-walks-bad {tell = tell} {told = told} {own = own} {before = before} {after = after} {first = first} {e = e} next one =
-    record {
-      answers = λ call turns.
-          behind-bad told tell before after (first call (state_in own turns)) (λ w. next call w.0 w.1) (state_in own turns) e (one.answers call turns);
-    }
-
--- where memory was wanting
-pub walks-none : {A B : Type 0} {tell : A → B} {own : Slots} {before after : View} {act : Callee → Act B} → Walks tell own before act after (Err Stop.NoMemory)
-walks-none = record { answers = λ call turns. tt }
+pub walks-bad : {A B C D : Type 0} {tell : A → B} {told : C → D} {state left : State} {before after : View} {first : Callee → Act D} {e : Stop} (next : Callee → D → Act B)
+    → Walks told state before first left after (Err e) → Walks tell state before (λ call. first call >>= next call) left after (Err e)
+walks-bad {tell = tell} {told = told} {state = state} {left = left} {before = before} {after = after} {first = first} {e = e} next one =
+    record { answers = λ call. behind-bad told tell before after (first call state) (λ w. next call w.0 w.1) left e (one.answers call) }
 
 -- an act that is another
-pub walks-as : {A B : Type 0} {tell : A → B} {own : Slots} {before after : View} {act other : Callee → Act B} {r : Result A Stop}
-    → ((call : Callee) → act call ≡ other call) → Walks tell own before other after r → Walks tell own before act after r
-walks-as {tell = tell} {own = own} {before = before} {after = after} {r = r} same walks =
-    record {
-      answers = λ call turns. subst (λ c. Answers tell before (c (state_in own turns)) (state_in own turns) after r) (sym (same call)) (walks.answers call turns);
-    }
+pub walks-as : {A B : Type 0} {tell : A → B} {state left : State} {before after : View} {act other : Callee → Act B} {r : Result A Stop}
+    → ((call : Callee) → act call ≡ other call) → Walks tell state before other left after r → Walks tell state before act left after r
+walks-as {tell = tell} {state = state} {left = left} {before = before} {after = after} {r = r} same walks =
+    record { answers = λ call. subst (λ c. Answers tell before (c state) left after r) (sym (same call)) (walks.answers call) }
+
+-- ---- the same of acts that leave the block's entities
+
+-- an act that gives its result
+pub stays-just : {A B : Type 0} {tell : A → B} {own : Slots} {view : View} {act : Callee → Act B} (a : A) → ((call : Callee) → act call ≡ just (tell a))
+    → Stays tell own view act view (Ok a)
+stays-just {tell = tell} {own = own} {view = view} a is =
+    record { each = λ turns. record { answers = λ call. ap (λ act. seen_over view (act (state_in own turns))) (is call) } }
+
+-- one that is a fault
+pub stays-wrong : {A B : Type 0} {tell : A → B} {own : Slots} {view : View} {act : Callee → Act B} (kind : FaultKind) (line : ℕ) → ((call : Callee) → act call ≡ wrong kind line)
+    → Stays tell own view act view (Err (Stop.Failed (Why.Fault kind) line))
+stays-wrong {own = own} {view = view} kind line is =
+    record { each = λ turns. record { answers = λ call. ap (λ act. seen_over view (act (state_in own turns))) (is call) } }
+
+pub stays-then : {A B C D : Type 0} {tell : A → B} {told : C → D} {own : Slots} {before between after : View} {first : Callee → Act D} {a : C} {r : Result A Stop} (next : Callee → D → Act B)
+    → Stays told own before first between (Ok a) → Stays tell own between (λ call. next call (told a)) after r
+    → Stays tell own before (λ call. first call >>= next call) after r
+stays-then next one more = record { each = λ turns. walks-then next (one.each turns) (more.each turns) }
+
+pub stays-bad : {A B C D : Type 0} {tell : A → B} {told : C → D} {own : Slots} {before after : View} {first : Callee → Act D} {e : Stop} (next : Callee → D → Act B)
+    → Stays told own before first after (Err e) → Stays tell own before (λ call. first call >>= next call) after (Err e)
+stays-bad next one = record { each = λ turns. walks-bad next (one.each turns) }
+
+-- where memory was wanting
+pub stays-none : {A B : Type 0} {tell : A → B} {own : Slots} {before after : View} {act : Callee → Act B} → Stays tell own before act after (Err Stop.NoMemory)
+stays-none = record { each = λ turns. record { answers = λ call. tt } }
+
+pub stays-as : {A B : Type 0} {tell : A → B} {own : Slots} {before after : View} {act other : Callee → Act B} {r : Result A Stop}
+    → ((call : Callee) → act call ≡ other call) → Stays tell own before other after r → Stays tell own before act after r
+stays-as same walks = record { each = λ turns. walks-as same (walks.each turns) }
 
 -- what `?` hands on
 pub handed : {A B : Type 0} {tell : A → B} {own : Slots} {before after : View} {act : Callee → Act B} (r : Result A Stop) (e : Stop) → IsErrAnd r (λ x. x ≡ e)
-    → Walks tell own before act after (Err e) → Walks tell own before act after r
+    → Stays tell own before act after (Err e) → Stays tell own before act after r
 handed (Ok a) e h walks = absurd h
 handed {tell = tell} {own = own} {before = before} {after = after} {act = act} (Err x) e h walks =
-    subst (λ (y : Stop). Walks tell own before act after (Err y)) (sym h) walks
+    subst (λ (y : Stop). Stays tell own before act after (Err y)) (sym h) walks
+
+-- and of want of memory
+pub wanting : {A B : Type 0} {tell : A → B} {own : Slots} {before after : View} {act : Callee → Act B} (r : Result A Stop) → IsErrAnd r (λ x. x ≡ Stop.NoMemory)
+    → Stays tell own before act after r
+wanting r h = handed r Stop.NoMemory h stays-none
 
 -- the same, told otherwise
 pub told-as : {A C B : Type 0} {tell : A → B} {own : Slots} {before after : View} {act : Callee → Act B} {a : A} (tell_too : C → B) (c : C) → tell a ≡ tell_too c
-    → Walks tell own before act after (Ok a) → Walks tell_too own before act after (Ok c)
+    → Stays tell own before act after (Ok a) → Stays tell_too own before act after (Ok c)
 told-as {own = own} {after = after} tell_too c same walks =
-    record { answers = λ call turns. walks.answers call turns ∙ ap (λ b. (after, done (b, state_in own turns))) same }
+    record { each = λ turns. record { answers = λ call. (walks.each turns).answers call ∙ ap (λ b. (after, done (b, state_in own turns))) same } }
 
-told-bad-at : {A C B : Type 0} (tell : A → B) (tell_too : C → B) (before : View) (c : Computing (B × State)) (state : State) (after : View) (e : Stop)
-    → Answers tell before c state after (Err e) → Answers tell_too before c state after (Err e)
-told-bad-at tell tell_too before c state after (Stop.Failed why line) walks = walks
-told-bad-at tell tell_too before c state after Stop.NoMemory walks = tt
+told-bad-at : {A C B : Type 0} (tell : A → B) (tell_too : C → B) (before : View) (c : Computing (B × State)) (left : State) (after : View) (e : Stop)
+    → Answers tell before c left after (Err e) → Answers tell_too before c left after (Err e)
+told-bad-at tell tell_too before c left after (Stop.Failed why line) walks = walks
+told-bad-at tell tell_too before c left after Stop.NoMemory walks = tt
 
 pub told-bad : {A C B : Type 0} {tell : A → B} {own : Slots} {before after : View} {act : Callee → Act B} {e : Stop} (tell_too : C → B)
-    → Walks tell own before act after (Err e) → Walks tell_too own before act after (Err e)
+    → Stays tell own before act after (Err e) → Stays tell_too own before act after (Err e)
 told-bad {tell = tell} {own = own} {before = before} {after = after} {act = act} {e = e} tell_too walks =
-    record { answers = λ call turns. told-bad-at tell tell_too before (act call (state_in own turns)) (state_in own turns) after e (walks.answers call turns) }
+    record { each = λ turns. record { answers = λ call. told-bad-at tell tell_too before (act call (state_in own turns)) (state_in own turns) after e ((walks.each turns).answers call) } }
 
 -- ---- first this, then that, and then another
 

@@ -6,21 +6,21 @@ use Rattle.dc_code.specs.Computation.{done, bad}
 use Rattle.dc_code.specs.Inner.{judging, nested_loop, greatest_depth}
 use Rattle.dc_code.specs.Loops.{Passage, alone}
 use Rattle.dc_code.specs.Troubles.{Trouble, ended, Computing}
+use Rattle.dc_plain.specs.Views.{View, store_with}
 use Rattle.dc_tree.specs.declared.program.Program.{Program}
 use Rattle.dc_tree.specs.declared.symbols.Symbol.{Symbol}
 use Rattle.dc_tree.specs.Blocks as blocks
 use Rattle.dc_tree.specs.Blocks.{Line, Items, Item, none, and_then, Source, source_of}
-use Rattle.dc_tree.specs.SmallPrograms.{is_small_program}
+use Rattle.dc_tree.specs.BuiltPrograms.{is_built}
 use Rattle.dc_tree.specs.Statements.{Name, Statement, concurrent}
 use Rattle.dc_meaning.specs.declared.alone_out.AloneOut.{AloneOut}
 use Rattle.dc_meaning.specs.declared.stop.Stop.{Stop}
 use Rattle.dc_meaning.specs.Programs.{program_forms}
-use Rattle.dc_meaning.specs.Views.{store_with}
-use Rattle.dc_meaning.specs.Walking.{View, seen_over}
+use Rattle.dc_meaning.specs.Walking.{seen_over}
 
 -- What can be asked: a program that can be run today, and one value for the one index of its loops.
 pub record IsAsked (program : Program) (symbols : List Symbol) (combination : List ℤ) : Type 0 where
-  pub form : IsTrue (is_small_program symbols (source_of program))
+  pub form : IsTrue (is_built symbols (source_of program))
   pub one : length combination ≡ 1
 
 -- The iteration of a loop with these index values, over the store of these states.

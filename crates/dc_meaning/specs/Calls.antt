@@ -1,11 +1,11 @@
 -- Procedures and their calls. After ISO/IEC 1539-1:2023, clauses 15.5 and 15.6; the turn of a call and the
 -- greatest depth are this project's own.
-use Rattle.std.specs.Prelude.{ℕ, zero, suc, ◌-◌, List, [], ◌∷◌, ◌++◌, filter_map, zip, replicate, slice_get, Option, Some, None, ℤ}
+use Rattle.std.specs.Prelude.{ℕ, zero, suc, ◌-◌, List, [], ◌∷◌, ◌++◌, filter_map, zip, slice_get, Option, Some, None, ℤ}
 use Rattle.dc_int.specs.declared.fault.FaultKind.{FaultKind}
 use Rattle.dc_int.specs.Sorts.{Sort}
-use Rattle.dc_int.specs.Store.{Bounds, elements_in}
 use Rattle.dc_code.specs.Computation.{give}
 use Rattle.dc_code.specs.Troubles.{Slots}
+pub use Rattle.dc_plain.specs.FirstStores.{undefined_cells}
 use Rattle.dc_tree.specs.declared.stmt.Intent.{Intent}
 use Rattle.dc_tree.specs.declared.symbols.Role as roles
 use Rattle.dc_tree.specs.declared.symbols.Symbol.{Symbol}
@@ -55,9 +55,6 @@ abbrev pub greatest_call_depth : ℕ
 greatest_call_depth = 100
 
 -- ---- from the declared names
-
-abbrev pub undefined_cells : Bounds → List (Option ℤ)
-undefined_cells bounds = replicate (elements_in bounds) None
 
 abbrev pub variable_cells : Symbol → Option (List (Option ℤ))
 variable_cells symbol = by symbol.role

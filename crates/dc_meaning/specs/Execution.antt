@@ -1,6 +1,6 @@
 -- The execution of blocks: constructs, loops and their turns. After ISO/IEC 1539-1:2023, clauses 11.1.2,
 -- 11.1.7, 11.1.8 and 11.1.9; the turns are this project's own.
-use Rattle.std.specs.Prelude.{ℕ, zero, suc, ◌+◌, ◌+ℤ◌, Bool, true, false, ◌&&◌, [], bytes_eq, Option, Some, None, if◌then◌else◌, ℤ, pos, negsuc, int_le}
+use Rattle.std.specs.Prelude.{ℕ, zero, suc, ◌+◌, ◌+ℤ◌, Bool, true, false, ◌&&◌, [], bytes_eq, Option, Some, None, if◌then◌else◌, ℤ, pos, int_le}
 use Rattle.std.specs.List.{list_any}
 use Rattle.dc_int.specs.declared.fault.FaultKind.{FaultKind}
 use Rattle.dc_int.specs.Reductions.{truth}

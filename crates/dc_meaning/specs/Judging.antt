@@ -8,20 +8,23 @@ use Rattle.dc_code.specs.declared.verdict.Verdict as answers
 use Rattle.dc_code.specs.Loops.{Passage, Loop, alone, Ordered, order, closed}
 use Rattle.dc_code.specs.Troubles.{ended}
 use Rattle.dc_code.specs.Verdicts.{Verdict, go_on, in_iteration, race, bad_iteration, verdict, seen}
+use Rattle.dc_tree.specs.BuiltPrograms.{is_built_block}
 use Rattle.dc_tree.specs.Blocks.{Items, items}
-use Rattle.dc_tree.specs.Entities.{Scope, main_scope}
-use Rattle.dc_tree.specs.SmallPrograms.{are_small_symbols, is_small_loop, with_index}
-use Rattle.dc_tree.specs.Statements.{statement}
+use Rattle.dc_tree.specs.Entities.{Scope}
+use Rattle.dc_entities.specs.Found.{IsNamed}
+use Rattle.dc_plain.specs.Marks.{Marks, marked_all, marked_runs}
+use Rattle.dc_plain.specs.Plainly.{plain}
+use Rattle.dc_plain.specs.Views.{View}
+use Rattle.dc_sorts.specs.Standing.{standing_of, scope_at}
 use Rattle.dc_meaning.specs.declared.stop.Stop.{Stop}
 use Rattle.dc_meaning.specs.declared.task.Task.{Task}
 use Rattle.dc_meaning.specs.declared.judge.Bad as code
 use Rattle.dc_meaning.specs.declared.judge.Told.{Told}
 use Rattle.dc_meaning.specs.Actions as actions
-use Rattle.dc_meaning.specs.Alone.{index_name, trouble_of}
+use Rattle.dc_meaning.specs.Alone.{trouble_of}
 use Rattle.dc_meaning.specs.Execution.{exec_all}
-use Rattle.dc_meaning.specs.Marks.{Marks, marked_all, marked_runs}
-use Rattle.dc_meaning.specs.Plainly.{plain}
-use Rattle.dc_meaning.specs.Walking.{View, Walks}
+use Rattle.dc_meaning.specs.Walking.{Stays}
+use Rattle.dc_meaning.specs.WalkScope.{index_names, all_spared}
 
 -- ---- one iteration
 
@@ -44,7 +47,7 @@ fresh store = record { store = store; entries = [] }
 pub record IsRunBy (parts : Loop) (scope : Scope) (block : Items) : Type 0 where
   pub runs
       : (z : ℤ) (store : Store) (after : View) (result : Result (Unit {0}) Stop)
-      → ((number : ℕ) → Walks (λ done. actions.on) ((Some z ∷ []) ∷ []) (fresh store) (λ call. exec_all scope call number block) after result)
+      → ((number : ℕ) → Stays (λ done. actions.on) ((Some z ∷ []) ∷ []) (fresh store) (λ call. exec_all scope call number block) after result)
       → IsDoneBy (parts.block store [] (z ∷ [])) after result
 
 -- All variables of the loop have unspecified locality, and its iterations are told by their entries.
@@ -56,9 +59,10 @@ pub record IsPlainly (parts : Loop) : Type 0 where
 
 -- A loop that the judge can run.
 pub record IsTask (parts : Loop) (task : Task) : Type 0 where
-  pub symbols : IsTrue (are_small_symbols task.symbols.now)
-  pub small : IsTrue (is_small_loop (main_scope task.symbols.now) (statement task.head.now) (items task.body.now))
-  pub run : IsRunBy parts (with_index (main_scope task.symbols.now) (index_name (statement task.head.now))) (items task.body.now)
+  pub named : IsNamed task.standing task.numbering.now
+  pub built : IsTrue (is_built_block (items task.body.now))
+  pub spared : IsTrue (all_spared (index_names task.standing) (items task.body.now))
+  pub run : IsRunBy parts (scope_at (standing_of task.standing)) (items task.body.now)
   pub plainly : IsPlainly parts
 
 -- How an iteration ended, and the marks with what it did.

@@ -3,7 +3,7 @@ use Rattle.std.specs.Prelude.{ℕ, List, [], ◌∷◌, slice_get, Option, Some,
 use Rattle.dc_int.specs.Store.{Store}
 use Rattle.dc_code.specs.Loops.{Loop, order}
 use Rattle.dc_code.specs.Verdicts.{Verdict, race, race_in}
-use Rattle.dc_meaning.specs.Plainly.{plain}
+use Rattle.dc_plain.specs.Plainly.{plain}
 
 -- The pair (i, j) run again, i and then j, over one store.
 abbrev pub between_plain : Loop → Store → List (List ℤ) → ℕ × ℕ → Option Verdict

@@ -7,15 +7,15 @@ use Rattle.dc_code.specs.Verdicts.{go_on, in_iteration, race, verdict}
 use Rattle.dc_tree.specs.declared.program.Program.{Program}
 use Rattle.dc_tree.specs.declared.symbols.Symbol.{Symbol}
 use Rattle.dc_tree.specs.Blocks.{source_of}
-use Rattle.dc_tree.specs.SmallPrograms.{is_small_program}
+use Rattle.dc_tree.specs.BuiltPrograms.{is_built}
 use Rattle.dc_meaning.specs.declared.plain.PlainVerdict.{PlainVerdict}
 use Rattle.dc_meaning.specs.Judging.{combination}
 use Rattle.dc_meaning.specs.Programs.{program_loops}
-use Rattle.dc_meaning.specs.Views.{states_in}
+use Rattle.dc_plain.specs.Views.{states_in}
 
 -- What can be judged: a loop of a program that can be run today, with the values of its one index.
 pub record IsJudgeable (program : Program) (symbols : List Symbol) (construct width : ℕ) (active : List ℤ) : Type 0 where
-  pub form : IsTrue (is_small_program symbols (source_of program))
+  pub form : IsTrue (is_built symbols (source_of program))
   pub loop : (turns : ℕ) → IsTrue (is_some (slice_get (program_loops symbols (source_of program) turns) construct))
   pub one : width ≡ 1
   pub few : length active ≤ 4194304

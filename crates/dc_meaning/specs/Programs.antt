@@ -1,15 +1,15 @@
 -- A whole program: what its main program does, its loops, and the store with which it begins. After ISO/IEC
 -- 1539-1:2023, clauses 8.4 and 14.1.
-use Rattle.std.specs.Prelude.{ℕ, suc, List, [], ◌∷◌, map, filter_map, Option, Some, None, ℤ}
+use Rattle.std.specs.Prelude.{ℕ, suc, List, [], ◌∷◌}
 use Rattle.dc_int.specs.Sorts.{sort_with}
-use Rattle.dc_int.specs.Store.{Bounds, Variable, Store}
 use Rattle.dc_code.specs.Inner.{Forms}
 use Rattle.dc_code.specs.Troubles.{Computing}
+pub use Rattle.dc_plain.specs.FirstStores.{first_store, first_variable, first_cells}
 use Rattle.dc_tree.specs.declared.symbols.Role as roles
 use Rattle.dc_tree.specs.declared.symbols.Symbol.{Symbol}
 use Rattle.dc_tree.specs.Blocks.{Source}
 use Rattle.dc_tree.specs.Entities.{symbols_in, main_scope}
-use Rattle.dc_meaning.specs.Calls.{callee, greatest_call_depth, procedures_from, undefined_cells}
+use Rattle.dc_meaning.specs.Calls.{callee, greatest_call_depth, procedures_from}
 use Rattle.dc_meaning.specs.Concurrent.{Outside, Concurrent, Surroundings}
 use Rattle.dc_meaning.specs.Execution.{exec_all}
 use Rattle.dc_meaning.specs.Headers.{inside_frame}
@@ -24,22 +24,6 @@ outsides_from number (symbol ∷ rest) = by symbol.role (outsides_from (suc numb
     by (roles.Role.Variable logical kind bounds initial) behind others =
         record { name = symbol.name; number = number; sort = sort_with logical kind; bounds = bounds } ∷ behind
     by role behind others = others
-
--- The initial cells of a variable: undefined where no initial values are given.
-abbrev pub first_cells : Bounds → List ℤ → List (Option ℤ)
-first_cells bounds [] = undefined_cells bounds
-first_cells bounds given = map (λ z. Some z) given
-
-abbrev pub first_variable : Symbol → Option Variable
-first_variable symbol = by symbol.role
-  where
-    by : roles.Role → Option Variable
-    by (roles.Role.Variable logical kind bounds initial) = Some (record { bounds = Some bounds; cells = first_cells bounds initial })
-    by role = None
-
--- The store of the initial values.
-abbrev pub first_store : List Symbol → Store
-first_store symbols = filter_map first_variable (symbols_in 0 symbols)
 
 abbrev pub surroundings : List Symbol → Source → ℕ → Surroundings
 surroundings symbols source turns = record {

@@ -1,65 +1,68 @@
 -- Where a statement stands: what its names stand for, and the entities of its block, as the walker holds them.
 -- This project's own.
-use Rattle.std.specs.Prelude.{ℕ, Bool, false, List, [], ◌∷◌, Option, Some, None, ℤ, pos}
-use Rattle.dc_int.specs.declared.kind.Kind.{Kind}
-use Rattle.dc_int.specs.Sorts.{whole, sort_with}
+use Rattle.std.specs.Prelude.{Bool, true, false, not, bytes_eq, List, [], ◌∷◌, map}
+use Rattle.std.specs.List.{list_all}
 use Rattle.dc_code.specs.Troubles.{Slots}
-use Rattle.dc_tree.specs.declared.symbols.Role as roles
+use Rattle.dc_int.specs.declared.kind.Kind.{Kind}
+use Rattle.dc_int.specs.Sorts.{whole, kind_of}
 use Rattle.dc_tree.specs.declared.symbols.Symbol.{Symbol}
-use Rattle.dc_tree.specs.Blocks.{Item, plain}
-use Rattle.dc_tree.specs.Entities.{Entity, outside, slots, nothing, Scope, main_scope}
-use Rattle.dc_tree.specs.SmallPrograms.{with_index, is_small_assignment}
-use Rattle.dc_tree.specs.Syntax.{Tree, Args, no_args, arg}
-use Rattle.dc_meaning.specs.Acts.{Place, outer, in_frame}
-use Rattle.dc_meaning.specs.declared.found.Found.{Found}
-use Rattle.dc_meaning.specs.declared.spot.Spot.{Spot}
-use Rattle.dc_meaning.specs.declared.walk.Index.{Index}
+use Rattle.dc_tree.specs.Blocks.{Item, Items, plain}
+use Rattle.dc_tree.specs.BuiltPrograms.{is_built_inside, spares, all_spare}
+use Rattle.dc_tree.specs.Entities.{Entity, Scope, slots, entity, main_scope, with_names}
+use Rattle.dc_tree.specs.Statements.{Name, Statement}
+use Rattle.dc_tree.specs.Typing.{sort_of_entity}
+use Rattle.dc_entities.specs.Found.{IsNamed}
+use Rattle.dc_sorts.specs.declared.standing.IndexName.{IndexName}
+use Rattle.dc_sorts.specs.declared.standing.Standing.{Standing}
+use Rattle.dc_sorts.specs.Standing.{standing_of, scope_at}
 use Rattle.dc_meaning.specs.declared.walk.Walk.{Walk}
-
-abbrev pub entity_of : Found → Entity
-entity_of Found.Index = slots 0 (whole Kind.K4) []
-entity_of (Found.Scalar variable) = outside variable (whole Kind.K4) []
-entity_of (Found.Vector variable size) = outside variable (whole Kind.K4) ((pos 1, pos size) ∷ [])
-entity_of Found.Nothing = nothing
-
-abbrev pub place_of_spot : Spot → Place
-place_of_spot Spot.Index = in_frame 0 0 0
-place_of_spot (Spot.Element x) = outer x
-
--- One subscript or none.
-abbrev pub subscripts_in : Option ℤ → List ℤ
-subscripts_in None = []
-subscripts_in (Some subscript) = subscript ∷ []
-
--- The first of some arguments.
-abbrev pub first_tree : Args → Option Tree
-first_tree no_args = None
-first_tree (arg keyed given rest) = Some given
-
--- What the variable of this number is.
-abbrev pub entity_at : ℕ → Symbol → Entity
-entity_at variable symbol = by symbol.role
-  where
-    by : roles.Role → Entity
-    by (roles.Role.Variable logical kind bounds initial) = outside variable (sort_with logical kind) bounds
-    by role = nothing
+use Rattle.dc_meaning.specs.Concurrent.{index_slots}
 
 abbrev pub scope_of : Walk → Scope
-scope_of walk = by walk.index
-  where
-    by : Option Index → Scope
-    by (Some index) = with_index (main_scope walk.symbols.now) index.name.now
-    by None = main_scope walk.symbols.now
+scope_of walk = scope_at (standing_of walk.standing)
 
--- The entities of the block: its index, with its value.
+-- The entities of the block: the indexes, with their values.
 abbrev pub own_of : Walk → Slots
-own_of walk = by walk.index
-  where
-    by : Option Index → Slots
-    by (Some index) = (Some index.value ∷ []) ∷ []
-    by None = []
+own_of walk = index_slots walk.values.now
 
--- An assignment inside a loop.
-abbrev pub is_small_line : Scope → Item → Bool
-is_small_line scope (plain line) = is_small_assignment scope false line.says
-is_small_line scope other = false
+-- The walker knows what the names stand for.
+pub record IsWalk (walk : Walk) : Type 0 where
+  pub named : IsNamed walk.standing walk.numbering.now
+
+-- The names of the indexes, which a block doesn't define.
+abbrev pub index_names : Standing → List Name
+index_names standing = map (λ (index : IndexName). index.name) standing.indexes.now
+
+abbrev pub spared : List Name → Statement → Bool
+spared names says = list_all (λ name. spares name says) names
+
+abbrev pub all_spared : List Name → Items → Bool
+all_spared names block = list_all (λ name. all_spare name block) names
+
+-- ---- the block of a loop with one index
+
+abbrev pub kind_of_index : List Symbol → Name → Kind
+kind_of_index symbols index = kind_of (sort_of_entity (entity (main_scope symbols) index))
+
+abbrev pub index_scope : List Symbol → Name → Scope
+index_scope symbols index = with_names ((index, slots 0 (whole (kind_of_index symbols index)) []) ∷ []) 1 (main_scope symbols)
+
+-- ---- what is defined
+
+-- An index is an entity of the iteration.
+abbrev pub is_slots : Entity → Bool
+is_slots (slots group sort bounds) = true
+is_slots other = false
+
+abbrev pub is_spared_name : List Name → Name → Bool
+is_spared_name names name = list_all (λ index. not (bytes_eq name index)) names
+
+-- ---- a statement of a block
+
+abbrev pub is_built_line : Item → Bool
+is_built_line (plain line) = is_built_inside line.says
+is_built_line other = false
+
+abbrev pub spared_item : List Name → Item → Bool
+spared_item names (plain line) = spared names line.says
+spared_item names other = false

@@ -5,19 +5,17 @@ ghost use Rattle.dc_code.specs.Loops.{Loop, alone, order, closed};
 ghost use Rattle.dc_code.specs.Troubles.{ended};
 ghost use Rattle.dc_code.specs.Verdicts.{seen, in_iteration, race_in, race_among};
 ghost use Rattle.dc_meaning.specs.Judging.{IsDone, IsOne, IsTask, IsMarked, IsOrdered, IsJudged, combination, runs_of, bad_of, told_of};
-ghost use Rattle.dc_meaning.specs.Marks.{blank_marks, marked_runs};
-ghost use Rattle.dc_meaning.specs.MarkViews.{marks_of, FitStore};
-ghost use Rattle.dc_meaning.specs.Plainly.{plain};
+ghost use Rattle.dc_plain.specs.Marks.{blank_marks, marked_runs};
+ghost use Rattle.dc_plain.specs.MarkViews.{marks_of, FitStore};
+ghost use Rattle.dc_plain.specs.Plainly.{plain};
 ghost use Rattle.dc_meaning.specs.Pairing.{between_plain};
 
-use crate::cells::Cells;
 use crate::loops::perform_iteration;
-use crate::marks::{Mark, Named, first_named, fit_store, mark_notes};
-use crate::race::race_by;
 use crate::stop::Stop;
 use crate::task::Task;
 use dc_code::{Race, Verdict};
 use dc_int::Why;
+use dc_plain::{Ledger, Mark, Named, first_named, mark_notes, race_by};
 use dc_text::{DcList, NoMemory};
 use std::alloc::Global;
 
@@ -37,38 +35,44 @@ pub(crate) struct Told {
     pub second: i64,
 }
 
-/// Runs one iteration over the cells. They note what it does, and nothing else.
-fn iterate(task: Task<'_>, cells: &mut Cells, value: i64) -> Result<Option<(Why, u32)>, NoMemory>
+/// Runs one iteration over the ledger. They note what it does, and nothing else.
+fn iterate(
+    alloc: Global,
+    task: Task<'_>,
+    ledger: &mut Ledger,
+    value: i64,
+) -> Result<Option<(Why, u32)>, NoMemory>
     ghost parts: { Loop }
     requires { IsTask parts task }
-    ensures { IfOk result (λ met. IsDone (parts.block (cells.old).store [] (combination value)) cells.new met) }
+    ensures { IfOk result (λ met. IsDone (parts.block (ledger.old).store [] (combination value)) ledger.new met) }
 {
-    cells.forget_accesses();
-    match perform_iteration(task.symbols, task.head, task.body, value, cells) {
+    ledger.forget_accesses();
+    match perform_iteration(alloc, task, value, ledger) {
         Ok(()) => Ok(None),
         Err(Stop::Failed { why, line }) => Ok(Some((why, line))),
         Err(Stop::NoMemory) => Err(NoMemory),
     }
 }
 
-/// Runs one iteration alone over a copy of the opening cells, marks what it does, and takes it back.
+/// Runs one iteration alone over a copy of the opening ledger, marks what it does, and takes it back.
 fn mark_one(
+    alloc: Global,
     task: Task<'_>,
-    opening: &Cells,
-    cells: &mut Cells,
+    opening: &Ledger,
+    ledger: &mut Ledger,
     iteration: u32,
     value: i64,
     rows: &mut Vec<Vec<Mark>>,
 ) -> Result<Option<(Why, u32)>, NoMemory>
     ghost parts: { Loop }
     requires task { IsTask parts task }
-    requires copy { (cells.old).store ≡ (opening.now).store }
+    requires copy { (ledger.old).store ≡ (opening.now).store }
     ensures one { IfOk result (λ met. IsOne (alone parts (opening.now).store (combination value)) iteration (marks_of rows.old.items) (marks_of rows.new.items) met) }
-    ensures back { IfOk result (λ met. (cells.new).store ≡ (opening.now).store) }
+    ensures back { IfOk result (λ met. (ledger.new).store ≡ (opening.now).store) }
 {
-    let met = iterate(task, cells, value)?;
-    mark_notes(rows, iteration, cells.notes());
-    cells.take_back(opening);
+    let met = iterate(alloc, task, ledger, value)?;
+    mark_notes(rows, iteration, ledger.notes());
+    ledger.take_back(opening);
     Ok(met)
 }
 
@@ -76,7 +80,7 @@ fn mark_one(
 pub(crate) fn mark_alone(
     alloc: Global,
     task: Task<'_>,
-    opening: &Cells,
+    opening: &Ledger,
     active: &[i64],
     rows: &mut Vec<Vec<Mark>>,
 ) -> Result<Option<Bad>, NoMemory>
@@ -85,10 +89,18 @@ pub(crate) fn mark_alone(
     requires few { length active.now ≤ 4194304 }
     ensures { IfOk result (λ bad. IsMarked parts (opening.now).store active.now (marks_of rows.old.items) (marks_of rows.new.items) bad) }
 {
-    let mut cells = opening.fresh(alloc)?;
+    let mut ledger = opening.fresh(alloc)?;
     let mut iteration = 0;
     for value in active {
-        if let Some((why, line)) = mark_one(task, opening, &mut cells, iteration, *value, rows)? {
+        if let Some((why, line)) = mark_one(
+            alloc,
+            task,
+            opening,
+            &mut ledger,
+            iteration,
+            *value,
+            rows,
+        )? {
             return Ok(Some(Bad {
                 iteration,
                 why,
@@ -104,7 +116,7 @@ pub(crate) fn mark_alone(
 fn replay(
     alloc: Global,
     task: Task<'_>,
-    opening: &Cells,
+    opening: &Ledger,
     named: Named,
     first: i64,
     second: i64,
@@ -113,32 +125,33 @@ fn replay(
     requires { IsTask parts task }
     ensures { IfOk result (λ race. race ≡ race_in plain named.first named.second (order parts [] (opening.now).store (combination first ∷ combination second ∷ [])).runs) }
 {
-    let mut cells = opening.fresh(alloc)?;
-    if iterate(task, &mut cells, first)?.is_some() {
+    let mut ledger = opening.fresh(alloc)?;
+    if iterate(alloc, task, &mut ledger, first)?.is_some() {
         return Ok(None);
     }
-    let before = cells.take_notes(alloc);
-    let _met = iterate(task, &mut cells, second)?;
-    Ok(race_by(named.first, named.second, before.as_slice(), cells.notes()))
+    let before = ledger.take_notes(alloc);
+    let _met = iterate(alloc, task, &mut ledger, second)?;
+    Ok(race_by(named.first, named.second, before.as_slice(), ledger.notes()))
 }
 
 /// Runs the iterations in this order over one store, up to the first that doesn't end well, and marks
 /// what each does.
 fn run_in_order(
+    alloc: Global,
     task: Task<'_>,
-    cells: &mut Cells,
+    ledger: &mut Ledger,
     active: &[i64],
     rows: &mut Vec<Vec<Mark>>,
 ) -> Result<(), NoMemory>
     ghost parts: { Loop }
     requires task { IsTask parts task }
     requires few { length active.now ≤ 4194304 }
-    ensures { OnOk result (IsOrdered (order parts [] (cells.old).store (map combination active.now)) (marks_of rows.old.items) (cells.new).store (marks_of rows.new.items)) }
+    ensures { OnOk result (IsOrdered (order parts [] (ledger.old).store (map combination active.now)) (marks_of rows.old.items) (ledger.new).store (marks_of rows.new.items)) }
 {
     let mut iteration = 0;
     for value in active {
-        let met = iterate(task, cells, *value)?;
-        mark_notes(rows, iteration, cells.notes());
+        let met = iterate(alloc, task, ledger, *value)?;
+        mark_notes(rows, iteration, ledger.notes());
         if met.is_some() {
             return Ok(());
         }
@@ -179,7 +192,7 @@ fn value_of(active: &[i64], iteration: u32) -> Option<i64>
 fn race_of_pair(
     alloc: Global,
     task: Task<'_>,
-    opening: &Cells,
+    opening: &Ledger,
     active: &[i64],
     named: Named,
 ) -> Result<Option<Told>, NoMemory>
@@ -219,7 +232,7 @@ fn race_told(alloc: Global, told: Told) -> Result<Verdict, NoMemory>
 pub(crate) fn race_among(
     alloc: Global,
     task: Task<'_>,
-    opening: &Cells,
+    opening: &Ledger,
     active: &[i64],
     rows: &[Vec<Mark>],
 ) -> Result<Option<Told>, NoMemory>
@@ -239,22 +252,19 @@ pub(crate) fn race_among(
 pub(crate) fn go_on(
     alloc: Global,
     task: Task<'_>,
-    cells: &mut Cells,
+    ledger: &mut Ledger,
     active: &[i64],
 ) -> Result<(), NoMemory>
     ghost parts: { Loop }
     requires task { IsTask parts task }
     requires few { length active.now ≤ 4194304 }
-    ensures { OnOk result ((cells.new).store ≡ closed parts (order parts [] (cells.old).store (map combination active.now))) }
+    ensures { OnOk result ((ledger.new).store ≡ closed parts (order parts [] (ledger.old).store (map combination active.now))) }
 {
-    let mut rows = cells.blank_marks(alloc)?;
-    let mut after = cells.fresh(alloc)?;
-    run_in_order(task, &mut after, active, &mut rows)?;
-    if !fit_store(rows.as_slice()) {
-        return Err(NoMemory);
-    }
+    let mut rows = ledger.blank_marks(alloc)?;
+    let mut after = ledger.fresh(alloc)?;
+    run_in_order(alloc, task, &mut after, active, &mut rows)?;
     after.forget_touched_twice(rows.as_slice());
-    *cells = after;
+    *ledger = after;
     Ok(())
 }
 
@@ -262,7 +272,7 @@ pub(crate) fn go_on(
 fn judge_marked(
     alloc: Global,
     task: Task<'_>,
-    cells: &mut Cells,
+    ledger: &mut Ledger,
     active: &[i64],
     rows: &[Vec<Mark>],
 ) -> Result<Verdict, NoMemory>
@@ -270,46 +280,41 @@ fn judge_marked(
     requires task { IsTask parts task }
     requires few { length active.now ≤ 4194304 }
     requires fit { FitStore rows.now }
-    requires marks { marks_of rows.now ≡ marked_runs 0 (runs_of parts (cells.old).store active.now) (blank_marks (cells.old).store) }
-    requires well { bad_of parts (cells.old).store active.now ≡ None }
-    ensures { IfOk result (λ said. IsJudged parts (cells.old).store active.now (cells.new).store said) }
+    requires marks { marks_of rows.now ≡ marked_runs 0 (runs_of parts (ledger.old).store active.now) (blank_marks (ledger.old).store) }
+    requires well { bad_of parts (ledger.old).store active.now ≡ None }
+    ensures { IfOk result (λ said. IsJudged parts (ledger.old).store active.now (ledger.new).store said) }
 {
-    match race_among(alloc, task, cells, active, rows)? {
+    match race_among(alloc, task, ledger, active, rows)? {
         Some(told) => {
             let said = race_told(alloc, told)?;
             Ok(said)
         }
         None => {
-            go_on(alloc, task, cells, active)?;
+            go_on(alloc, task, ledger, active)?;
             Ok(Verdict::GoOn)
         }
     }
 }
 
-/// Judges a loop with these iterations over the cells. They are left as the loop leaves them where it
+/// Judges a loop with these iterations over the ledger. They are left as the loop leaves them where it
 /// goes on, and else as they were.
 pub(crate) fn judge(
     alloc: Global,
     task: Task<'_>,
-    cells: &mut Cells,
+    ledger: &mut Ledger,
     active: &[i64],
 ) -> Result<Verdict, NoMemory>
     ghost parts: { Loop }
     requires task { IsTask parts task }
     requires few { length active.now ≤ 4194304 }
-    ensures { IfOk result (λ said. IsJudged parts (cells.old).store active.now (cells.new).store said) }
+    ensures { IfOk result (λ said. IsJudged parts (ledger.old).store active.now (ledger.new).store said) }
 {
-    let mut rows = cells.blank_marks(alloc)?;
-    match mark_alone(alloc, task, cells, active, &mut rows)? {
+    let mut rows = ledger.blank_marks(alloc)?;
+    match mark_alone(alloc, task, ledger, active, &mut rows)? {
         Some(bad) => {
             let said = bad_verdict(alloc, active, bad)?;
             Ok(said)
         }
-        None => {
-            if !fit_store(rows.as_slice()) {
-                return Err(NoMemory);
-            }
-            judge_marked(alloc, task, cells, active, rows.as_slice())
-        }
+        None => judge_marked(alloc, task, ledger, active, rows.as_slice()),
     }
 }

@@ -2,7 +2,8 @@
 
 ghost use Rattle.std.specs.Prelude.{◌≡◌};
 ghost use Rattle.dc_code.specs.Computation.{Computation, over};
-ghost use Rattle.dc_meaning.specs.Walking.{View, seen_over, behind_view};
+ghost use Rattle.dc_plain.specs.Views.{View};
+ghost use Rattle.dc_meaning.specs.Walking.{seen_over, behind_view};
 
 /// What a computation leaves of a view is its run over the view's store, with the entries of the run
 /// behind those of the view.

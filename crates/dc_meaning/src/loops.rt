@@ -1,22 +1,25 @@
 //! The loop of a number, and one iteration of it.
 
-ghost use Rattle.std.specs.Prelude.{◌≡◌, ℕ, IsTrue, Some, [], ◌∷◌, map, option_map};
+ghost use Rattle.std.specs.Prelude.{◌≡◌, ℕ, ◌≤◌, IsTrue, Some, [], ◌∷◌, length, map, option_map};
+ghost use Rattle.dc_entities.specs.Found.{IsNamed};
+ghost use Rattle.dc_sorts.specs.Standing.{standing_of, scope_at};
 ghost use Rattle.dc_tree.specs.Blocks.{item, items, items_from};
-ghost use Rattle.dc_tree.specs.Entities.{main_scope};
-ghost use Rattle.dc_tree.specs.SmallPrograms.{are_small_symbols, is_small_loop, with_index};
-ghost use Rattle.dc_tree.specs.Statements.{statement};
+ghost use Rattle.dc_tree.specs.BuiltPrograms.{is_built_block};
 ghost use Rattle.dc_meaning.specs.Actions as actions;
-ghost use Rattle.dc_meaning.specs.Alone.{nth_loop, index_name};
+ghost use Rattle.dc_meaning.specs.Alone.{nth_loop};
 ghost use Rattle.dc_meaning.specs.Execution.{exec_all};
 ghost use Rattle.dc_meaning.specs.Looping.{looped_of};
-ghost use Rattle.dc_meaning.specs.Walking.{Walks};
+ghost use Rattle.dc_meaning.specs.Walking.{Stays};
+ghost use Rattle.dc_meaning.specs.WalkScope.{index_names, all_spared};
 
 use crate::block::perform_all;
-use crate::cells::Cells;
 use crate::looped::Looped;
 use crate::stop::Stop;
-use crate::walk::{Index, Walk};
-use dc_tree::{Block, Node, Stmt, Symbols};
+use crate::task::Task;
+use crate::walk::Walk;
+use dc_plain::Ledger;
+use dc_tree::Node;
+use std::alloc::Global;
 
 /// The loop of a number, counted from 0.
 pub(crate) fn nth_loop(nodes: &[Node], number: u32) -> Option<Looped<'_>>
@@ -36,28 +39,22 @@ pub(crate) fn nth_loop(nodes: &[Node], number: u32) -> Option<Looped<'_>>
 
 /// Carries out the block of a loop for one value of its index.
 pub(crate) fn perform_iteration(
-    symbols: &Symbols,
-    head: &Stmt,
-    body: &Block,
+    alloc: Global,
+    task: Task<'_>,
     value: i64,
-    cells: &mut Cells,
+    ledger: &mut Ledger,
 ) -> Result<(), Stop>
-    requires symbols { IsTrue (are_small_symbols symbols.now) }
-    requires small { IsTrue (is_small_loop (main_scope symbols.now) (statement head.now) (items body.now)) }
-    ensures { (number : ℕ) → Walks (λ done. actions.on) ((Some value ∷ []) ∷ []) cells.old (λ call. exec_all (with_index (main_scope symbols.now) (index_name (statement head.now))) call number (items body.now)) cells.new result }
+    requires named { IsNamed task.standing task.numbering.now }
+    requires built { IsTrue (is_built_block (items task.body.now)) }
+    requires spared { IsTrue (all_spared (index_names task.standing) (items task.body.now)) }
+    ensures { (number : ℕ) → Stays (λ done. actions.on) ((Some value ∷ []) ∷ []) ledger.old
+        (λ call. exec_all (scope_at (standing_of task.entry.standing)) call number (items task.entry.body.now))
+        ledger.new result }
 {
-    let Stmt::Concurrent { indexes, .. } = head else {
-        unreachable!()
+    let walk = Walk {
+        standing: task.standing,
+        numbering: task.numbering,
+        values: &[value],
     };
-    match indexes.as_slice() {
-        [index, ..] => {
-            let name = index.name.as_bytes();
-            let walk = Walk {
-                symbols,
-                index: Some(Index { name, value }),
-            };
-            perform_all(&walk, cells, body.nodes.as_slice())
-        }
-        [] => unreachable!(),
-    }
+    perform_all(alloc, &walk, ledger, task.body.nodes.as_slice())
 }

@@ -1,11 +1,14 @@
 //! What the judge is given of a loop.
 
-use dc_tree::{Block, Stmt, Symbols};
+use dc_entities::Numbering;
+use dc_sorts::Standing;
+use dc_tree::Block;
 
-/// A loop to be judged: the declared names, its header, and its block.
+/// A loop to be judged: the names that its block can use, its index among them, how outside variables are
+/// numbered, and its block.
 #[derive(Clone, Copy)]
 pub(crate) struct Task<'a> {
-    pub symbols: &'a Symbols,
-    pub head: &'a Stmt,
+    pub standing: Standing<'a>,
+    pub numbering: &'a Numbering,
     pub body: &'a Block,
 }

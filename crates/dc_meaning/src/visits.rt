@@ -1,87 +1,112 @@
 //! A loop of the main program, judged by the plain judge.
 
-ghost use Rattle.std.specs.Prelude.{◌≡◌, ◌≤◌, length, pos, IfOk, IsTrue};
-ghost use Rattle.dc_code.specs.Combinations.{values_of};
+ghost use Rattle.std.specs.Prelude.{◌≡◌, [], None, IfOk};
+ghost use Rattle.dc_code.specs.declared.verdict.Verdict as answers;
 ghost use Rattle.dc_code.specs.Loops.{Loop};
+ghost use Rattle.dc_entities.specs.Numbering.{numbers_of};
 ghost use Rattle.dc_tree.specs.Blocks.{items};
-ghost use Rattle.dc_tree.specs.Entities.{main_scope};
-ghost use Rattle.dc_tree.specs.SmallPrograms.{is_limit, is_small_loop};
-ghost use Rattle.dc_tree.specs.Statements.{statement};
-ghost use Rattle.dc_tree.specs.Syntax.{tree};
-ghost use Rattle.dc_meaning.specs.Visiting.{IsVisitable, IsVisit, limit_of, index_values};
+ghost use Rattle.dc_tree.specs.Statements.{index_ranging, statement};
+ghost use Rattle.dc_meaning.specs.Judging.{IsTask};
+ghost use Rattle.dc_meaning.specs.Visiting as visiting;
+ghost use Rattle.dc_meaning.specs.Visiting.{IsVisitable, IsVisit, IsVisitBetween, span_with};
 
-use crate::cells::Cells;
+use crate::assignment::main_walk;
+use crate::header::{Limits, limits_of};
+use crate::indexes::{block_standing, first_index, index_kind, index_list};
 use crate::judge::judge;
-use crate::number::number_of;
+use crate::stop::Stop;
 use crate::task::Task;
 use dc_code::Verdict;
-use dc_text::{DcList, NoMemory};
-use dc_tree::{Block, Expr, Stmt, Symbols};
+use dc_entities::{Numbering, are_too_many, values};
+use dc_int::{FaultKind, Why};
+use dc_plain::Ledger;
+use dc_text::NoMemory;
+use dc_tree::{Block, Index, Lined, Symbols};
 use std::alloc::Global;
 
-/// A limit of a loop, which has up to four digits.
-fn limit(expr: &Expr) -> u32
-    requires { IsTrue (is_limit (tree expr.now)) }
-    ensures value { pos result ≡ limit_of (tree expr.now) }
-    ensures small { result ≤ 9999 }
+/// What is said where a header comes to trouble.
+fn header_fault(why: Why, line: u32) -> Verdict
+    ensures { result ≡ answers.Verdict.HeaderFault why line None }
 {
-    match expr {
-        Expr::Number { digits, .. } => number_of(digits.as_bytes()),
-        _ => unreachable!(),
+    Verdict::HeaderFault {
+        why,
+        line,
+        mask: None,
     }
 }
 
-/// The numbers from one to another.
-#[tactic(auto, using(crate::proofs::Indexes::values_all, crate::proofs::Indexes::values_step, crate::proofs::Indexes::values_end))]
-fn values(alloc: Global, first: u32, last: u32) -> Result<DcList<i64>, NoMemory>
-    requires { last ≤ 9999 }
-    ensures { IfOk result (λ made. (made ≡ values_of (record { first = pos first; last = pos last; step = pos 1 })) × (length made ≤ 4194304)) }
-{
-    let mut made = DcList::new(alloc);
-    for value in first..last + 1 {
-        made.push(i64::from(value))?;
-    }
-    Ok(made)
-}
-
-/// The values of the index of a loop.
-fn active_values(
+/// Judges the iterations between the limits.
+fn visit_between(
     alloc: Global,
-    symbols: &Symbols,
-    head: &Stmt,
-    body: &Block,
-) -> Result<DcList<i64>, NoMemory>
-    requires { IsTrue (is_small_loop (main_scope symbols.now) (statement head.now) (items body.now)) }
-    ensures { IfOk result (λ made. (made ≡ index_values (statement head.now)) × (length made ≤ 4194304)) }
-{
-    let Stmt::Concurrent { indexes, .. } = head else {
-        unreachable!()
-    };
-    match indexes.as_slice() {
-        [index, ..] => values(alloc, limit(&index.first), limit(&index.last)),
-        [] => unreachable!(),
-    }
-}
-
-/// Judges a loop, and leaves the cells as it does: with the closing values where it goes on, and else
-/// unchanged. `head` is its header, and `body` its block.
-pub fn visit(
-    alloc: Global,
-    symbols: &Symbols,
-    head: &Stmt,
-    body: &Block,
-    cells: &mut Cells,
+    task: Task<'_>,
+    line: u32,
+    limits: Limits,
+    ledger: &mut Ledger,
 ) -> Result<Verdict, NoMemory>
     ghost parts: { Loop }
-    requires { IsVisitable parts symbols.now (statement head.now) (items body.now) }
-    ensures { IfOk result (λ said. IsVisit parts (cells.old).store (cells.new).store said) }
+    requires { IsTask parts task }
+    ensures { IfOk result (λ said. IsVisitBetween parts line (span_with limits) (ledger.old).store (ledger.new).store said) }
 {
-    let active = active_values(alloc, symbols, head, body)?;
-    let task = Task {
-        symbols,
-        head,
-        body,
-    };
-    let said = judge(alloc, task, cells, active.as_slice())?;
+    if are_too_many(limits.first, limits.last) {
+        return Ok(header_fault(Why::Fault(FaultKind::TooManyIterations), line));
+    }
+    let active = values(alloc, limits.first, limits.last)?;
+    let said = judge(alloc, task, ledger, active.as_slice())?;
+    Ok(said)
+}
+
+/// Judges a loop whose index has a kind.
+fn visit_index<'a>(
+    alloc: Global,
+    symbols: &'a Symbols,
+    numbering: &'a Numbering,
+    head: &'a Lined,
+    index: &'a Index,
+    body: &'a Block,
+    ledger: &mut Ledger,
+) -> Result<Verdict, NoMemory>
+    ghost parts: { Loop }
+    requires visitable { IsVisitable parts symbols.now (head.now).line (statement (head.now).stmt) (items body.now) }
+    requires numbers { numbering.now ≡ numbers_of symbols.now }
+    requires index { visiting.first_index (statement (head.now).stmt) (index_ranging index.now) }
+    requires fresh { (ledger.old).entries ≡ [] }
+    ensures { IfOk result (λ said. IsVisit parts (ledger.old).store (ledger.new).store said) }
+{
+    let kind = index_kind(symbols, numbering, index.name.as_bytes());
+    let indexes = index_list(alloc, &index.name, kind)?;
+    let walk = main_walk(symbols, numbering);
+    match limits_of(alloc, &walk, ledger, head.line, kind, index) {
+        Ok(limits) => {
+            let task = Task {
+                standing: block_standing(symbols, indexes.as_slice()),
+                numbering,
+                body,
+            };
+            let said = visit_between(alloc, task, head.line, limits, ledger)?;
+            Ok(said)
+        }
+        Err(Stop::Failed { why, line }) => Ok(header_fault(why, line)),
+        Err(Stop::NoMemory) => Err(NoMemory),
+    }
+}
+
+/// Judges a loop, and leaves the elements as it does: with the closing values where it goes on, and else
+/// unchanged. `head` is its header, and `body` its block.
+pub fn visit<'a>(
+    alloc: Global,
+    symbols: &'a Symbols,
+    numbering: &'a Numbering,
+    head: &'a Lined,
+    body: &'a Block,
+    ledger: &mut Ledger,
+) -> Result<Verdict, NoMemory>
+    ghost parts: { Loop }
+    requires visitable { IsVisitable parts symbols.now (head.now).line (statement (head.now).stmt) (items body.now) }
+    requires numbers { numbering.now ≡ numbers_of symbols.now }
+    ensures { IfOk result (λ said. IsVisit parts (ledger.old).store (ledger.new).store said) }
+{
+    ledger.forget_accesses();
+    let index = first_index(&head.stmt);
+    let said = visit_index(alloc, symbols, numbering, head, index, body, ledger)?;
     Ok(said)
 }

@@ -1,17 +1,13 @@
-//! `Walk`: what the walker knows at a place, its index among it.
+//! `Walk`: what the walker knows at a place.
 
-use dc_tree::Symbols;
+use dc_entities::Numbering;
+use dc_sorts::Standing;
 
-/// The index of a loop, with its value in an iteration.
-#[derive(Clone, Copy)]
-pub(crate) struct Index<'a> {
-    pub name: &'a [u8],
-    pub value: i64,
-}
-
-/// Where a statement stands: the declared names, and the index of the loop around it.
+/// Where a statement stands: the names that can be used there, how outside variables are numbered, and
+/// the values of the indexes of the loop around, in the order of its header.
 #[derive(Clone, Copy)]
 pub(crate) struct Walk<'a> {
-    pub symbols: &'a Symbols,
-    pub index: Option<Index<'a>>,
+    pub standing: Standing<'a>,
+    pub numbering: &'a Numbering,
+    pub values: &'a [i64],
 }

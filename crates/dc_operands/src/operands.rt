@@ -2,7 +2,7 @@
 
 ghost use Rattle.std.specs.Prelude.{◌≡◌, map, IfOk, OnOk};
 ghost use Rattle.dc_tree.specs.Findings.{least_with_all};
-ghost use Rattle.dc_tree.specs.Syntax.{arg_tree, args_from, chars, refer, tree};
+ghost use Rattle.dc_tree.specs.Syntax.{arg_tree, args_from, refer, tree};
 ghost use Rattle.dc_sorts.specs.Knowing.{known_args};
 ghost use Rattle.dc_sorts.specs.Standing.{scope_at, standing_of};
 ghost use Rattle.dc_operands.specs.Operands.{argument_with, element_argument, named_argument, known_at, operand_findings, operand_findings_in, arguments_of, plain_arguments, each_operand_findings};
@@ -11,23 +11,12 @@ use crate::argument::Argument;
 use crate::operating::{is_array, is_variable, takes_one, takes_two};
 use crate::references::note_reference;
 use dc_sorts::{
-    Form, Known, Standing, known_joined, known_led, known_name, known_number, known_referred,
-    known_truth,
+    Form, Known, Standing, known_chars, known_joined, known_led, known_name, known_number,
+    known_referred, known_truth,
 };
 use dc_text::{DcList, NoMemory};
 use dc_tree::{Arg, Expr, LeastFinding};
 use std::alloc::Global;
-
-/// A character literal is of no form that is asked.
-fn known_chars(_standing: &Standing, _text: &[u8]) -> Known
-    ensures { result ≡ known_at (standing_of _standing.now) (chars _text.now) }
-{
-    Known {
-        form: Form::Logical,
-        constant: false,
-        value: None,
-    }
-}
 
 fn named_argument(standing: &Standing, keyed: bool, form: Form, text: &[u8]) -> Argument
     ensures { result ≡ named_argument (standing_of standing.now) keyed form text.now }

@@ -1,12 +1,15 @@
 pub mod Beginnings
 mod CallRows
+pub mod Elements
 mod ExpressionRows
 pub mod Extents
+pub mod FirstFits
 pub mod Fitting
 mod FlowRows
 pub mod IndexLists
 mod InnerRows
 mod InputRows
+pub mod Lines
 mod LoopRows
 pub mod LoopSteps
 pub mod NamedBounds

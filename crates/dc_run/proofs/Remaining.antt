@@ -7,7 +7,7 @@ use Rattle.dc_tree.specs.declared.program.Node.{Node}
 use Rattle.dc_tree.specs.declared.symbols.Symbol.{Symbol}
 use Rattle.dc_tree.specs.Blocks.{Line, Item, Items, plain, branch, select, loop, and_then, item, items_from}
 use Rattle.dc_tree.specs.Entities.{Scope}
-use Rattle.dc_tree.specs.SmallPrograms.{is_small_item}
+use Rattle.dc_tree.specs.BuiltPrograms.{is_built_item}
 use Rattle.dc_meaning.specs.Actions.{Flow}
 use Rattle.dc_meaning.specs.Acts.{State}
 use Rattle.dc_meaning.specs.Alone.{nth_loop}
@@ -61,22 +61,22 @@ plain-numbers : (n : ℕ) (line : Line) (rest : Items) → nth_loop n (and_then 
 plain-numbers zero line rest = refl
 plain-numbers (suc n) line rest = refl
 
-pub numbers-on : (scope : Scope) (all rest : Items) (first : Item) (number later : ℕ) → is_small_item scope first ≡ true → later ≡ number + loops_in first
+pub numbers-on : (scope : Scope) (all rest : Items) (first : Item) (number later : ℕ) → is_built_item scope first ≡ true → later ≡ number + loops_in first
     → ((n : ℕ) → nth_loop (number + n) all ≡ nth_loop n (and_then first rest)) → (n : ℕ) → nth_loop (later + n) all ≡ nth_loop n rest
-numbers-on scope all rest (plain line) number later small is numbers n =
+numbers-on scope all rest (plain line) number later built is numbers n =
     let same : later + n ≡ number + n = omega (arith, is) in ap (λ m. nth_loop m all) same ∙ numbers n ∙ plain-numbers n line rest
-numbers-on scope all rest (branch arms close) number later small is numbers n = cc
-numbers-on scope all rest (select head arms close) number later small is numbers n = cc
-numbers-on scope all rest (loop head body close) number later small is numbers n =
-    let one = one-loop scope head close body small in
+numbers-on scope all rest (branch arms close) number later built is numbers n = cc
+numbers-on scope all rest (select head arms close) number later built is numbers n = cc
+numbers-on scope all rest (loop head body close) number later built is numbers n =
+    let one = one-loop scope head close body built in
     let same : later + n ≡ number + suc n = omega (arith, is, one) in
     ap (λ m. nth_loop m all) same ∙ numbers (suc n)
 
-pub few-loops : (scope : Scope) (first : Item) → is_small_item scope first ≡ true → loops_in first ≤ 1
-few-loops scope (plain line) small = omega arith
-few-loops scope (branch arms close) small = cc
-few-loops scope (select head arms close) small = cc
-few-loops scope (loop head body close) small = let one = one-loop scope head close body small in omega (arith, one)
+pub few-loops : (scope : Scope) (first : Item) → is_built_item scope first ≡ true → loops_in first ≤ 1
+few-loops scope (plain line) built = omega arith
+few-loops scope (branch arms close) built = cc
+few-loops scope (select head arms close) built = cc
+few-loops scope (loop head body close) built = let one = one-loop scope head close body built in omega (arith, one)
 
 -- ---- nodes
 

@@ -2,6 +2,7 @@
 use Rattle.std.proofs.Common.{◌≡◌, ◌≢◌, ℕ, Bool, true, false, List, [], ◌∷◌, All, Some, None, Result, Ok, Err, refl, sym, ap, subst, ◌∙◌, inl, inr}
 use Rattle.std.proofs.lemmas.List.Elements.{All-nil, All-cons}
 use Rattle.std.proofs.lemmas.Option.{none-some}
+use Rattle.std.specs.List.{list_all}
 use Rattle.std.specs.Prelude.{◌⊎◌, ℤ, pos, nat_le, map, if◌then◌else◌}
 use Rattle.dc_int.specs.declared.access.ElementId.{ElementId}
 use Rattle.dc_int.specs.declared.fault.FaultKind.{FaultKind}
@@ -20,7 +21,8 @@ use Rattle.dc_lists.specs.Input as input
 use Rattle.dc_lists.specs.Output.{line_of}
 use Rattle.dc_tree.specs.declared.symbols.Symbol.{Symbol}
 use Rattle.dc_tree.specs.Blocks.{Source}
-use Rattle.dc_tree.specs.SmallPrograms.{is_small_program}
+use Rattle.dc_tree.specs.BuiltPrograms.{is_built}
+use Rattle.dc_tree.specs.Symbols.{is_sound}
 use Rattle.dc_meaning.specs.Programs.{first_store, main_computation, program_forms}
 use Rattle.dc_meaning.proofs.EveryOrder.{loop-says}
 use Rattle.dc_run.specs.declared.ending.Ending as endings
@@ -162,23 +164,23 @@ said-at loop number slots turns store says = by says.says
     by (inl header) = in_header header.trouble header.met header.is
     by (inr orders) = in_orders orders.given orders.opens orders.holds
 
-run-reports : (symbols : List Symbol) (source : Source) (turns : ℕ) (given : List ℕ) → is_small_program symbols source ≡ true
+run-reports : (symbols : List Symbol) (source : Source) (turns : ℕ) (given : List ℕ) → list_all is_sound symbols ≡ true → is_built symbols source ≡ true
     → Reports symbols source turns given (run judging symbols source turns given).output (run judging symbols source turns given).ending
-run-reports symbols source turns given small =
+run-reports symbols source turns given sound built =
     let looping = looping_by judging symbols source turns in
     let names = outside_names symbols in
     let at : Standing = record { store = first_store symbols; input = given; used = 0 } in
     let judged = good-play looping names (IsJudged symbols source turns) (λ number slots left store. record { said = refl; left = refl }) at (main_computation symbols source turns) in
     let says = good-play looping names (Holds symbols source turns)
-    (λ number slots left store. said-at (nested_loop judging (program_forms symbols source turns) greatest_depth number slots) number slots left store (loop-says symbols source small turns number slots left store)) at (main_computation symbols source turns) in
-    record { visits = (run judging symbols source turns given).visits; is = refl; ends = judged.ends; judged = judged.each; orders = says.each; fits = stores-fit symbols source turns given small }
+    (λ number slots left store. said-at (nested_loop judging (program_forms symbols source turns) greatest_depth number slots) number slots left store (loop-says symbols source built turns number slots left store)) at (main_computation symbols source turns) in
+    record { visits = (run judging symbols source turns given).visits; is = refl; ends = judged.ends; judged = judged.each; orders = says.each; fits = stores-fit symbols source turns given sound built }
 
 -- What the code answers, where it is what the run of the definition writes and how that ends.
-pub reports : (symbols : List Symbol) (source : Source) (turns : ℕ) (given : List ℕ) (out : RunOut) → is_small_program symbols source ≡ true → IsRunOf symbols source turns given out
+pub reports : (symbols : List Symbol) (source : Source) (turns : ℕ) (given : List ℕ) (out : RunOut) → list_all is_sound symbols ≡ true → is_built symbols source ≡ true → IsRunOf symbols source turns given out
     → Reports symbols source turns given out.output (ending_of symbols out.ending)
-reports symbols source turns given out small is =
+reports symbols source turns given out sound built is =
     subst (λ (ending : Ending). Reports symbols source turns given out.output ending) (sym is.ending)
-    (subst (λ (output : List ℕ). Reports symbols source turns given output (run judging symbols source turns given).ending) (sym is.output) (run-reports symbols source turns given small))
+    (subst (λ (output : List ℕ). Reports symbols source turns given output (run judging symbols source turns given).ending) (sym is.output) (run-reports symbols source turns given sound built))
 
 -- ---- a run that is stopped
 

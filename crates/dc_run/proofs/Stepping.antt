@@ -1,33 +1,31 @@
 -- What a statement does to a run.
-use Rattle.std.proofs.Common.{◌≡◌, ◌≤◌, ◌+◌, ℕ, Bool, true, false, cond, List, [], ◌∷◌, ◌++◌, map, length, Option, Some, None, refl, sym, ap, subst, ◌∙◌, append_assoc, append-nil, length-append, arith}
-use Rattle.std.specs.Prelude.{Ok, Err, ℤ, nat_le, flat_map}
-use Rattle.std.specs.Fmt.{signed_decimal}
+use Rattle.std.proofs.Common.{◌≡◌, ◌≤◌, ◌+◌, ℕ, Bool, true, false, cond, List, [], ◌++◌, map, length, Option, Some, None, sym, ap, subst, ◌∙◌, append_assoc, append-nil, length-append, arith}
+use Rattle.std.specs.Prelude.{Ok, Err, nat_le, flat_map}
 use Rattle.dc_int.specs.declared.fault.FaultKind.{FaultKind}
 use Rattle.dc_int.specs.declared.fault.Why.{Why}
-use Rattle.dc_int.specs.declared.kind.Kind.{Kind}
-use Rattle.dc_int.specs.Sorts.{whole}
 use Rattle.dc_code.specs.Computation.{Reached, done, bad, sequence, over, SameShape}
 use Rattle.dc_code.specs.Troubles.{Failure, Computing, Event, write_line, Piece}
 use Rattle.dc_code.proofs.Runs.{replayed}
 use Rattle.dc_code.proofs.Stores.{shape-after, shape-then}
-use Rattle.dc_lists.specs.Output.{line_of}
+use Rattle.dc_plain.specs.Views.{View}
 use Rattle.dc_tree.specs.declared.symbols.Symbol.{Symbol}
 use Rattle.dc_tree.specs.Entities.{Scope}
 use Rattle.dc_tree.specs.Syntax.{Tree}
+use Rattle.dc_meaning.specs.declared.output.Piece.{Piece as CodePiece}
 use Rattle.dc_meaning.specs.declared.stop.Stop.{Stop}
-use Rattle.dc_meaning.specs.Actions.{Flow, on, ◌>>◌, piece, pieces, paused_for, printing}
-use Rattle.dc_meaning.specs.Acts.{Act, ◌>>=◌, just}
+use Rattle.dc_meaning.specs.Actions.{Flow, on, ◌>>◌, pieces, paused_for, printing}
+use Rattle.dc_meaning.specs.Acts.{Act, just, for_each}
+use Rattle.dc_meaning.specs.Pieces.{piece_of}
 use Rattle.dc_meaning.specs.Programs.{first_store}
 use Rattle.dc_meaning.specs.Values.{Callee}
-use Rattle.dc_meaning.specs.Walking.{View, seen_over, state_in, Walks}
-use Rattle.dc_meaning.proofs.Storing.{goes_on}
-use Rattle.dc_meaning.proofs.Walking.{seen-run, sequence-then, acts-then, walks-as, walks-bad}
+use Rattle.dc_meaning.specs.Walking.{seen_over, state_in, Stays}
+use Rattle.dc_meaning.proofs.Walking.{seen-run, sequence-then, stays-bad}
 use Rattle.dc_run.specs.declared.ending.Ending as code
 use Rattle.dc_run.specs.declared.running.Standing as standings
 use Rattle.dc_run.specs.Answered.{ending_of, NamesOwn}
-use Rattle.dc_run.specs.Playing.{Outcome, Looping, greatest_output, piece_text, writes, behind_output, fails_with, played}
+use Rattle.dc_run.specs.Playing.{Outcome, Looping, greatest_output, behind_output, fails_with, played}
 use Rattle.dc_run.specs.ReportLine as endings
-use Rattle.dc_run.specs.Running.{IsWritten, numbers_line, at_of, Told, told_behind, told_after, MeetsOwn, Steps, IsEndBy, IsUsual}
+use Rattle.dc_run.specs.Running.{IsWritten, pieces_line, at_of, Told, told_behind, told_after, MeetsOwn, Steps, IsEndBy, IsUsual}
 use Rattle.dc_run.proofs.Played.{played-then, resumed_from}
 
 -- ---- what was seen is what is played
@@ -43,25 +41,25 @@ seen-shape before after c reached seen =
     subst (SameShape before.store) (sym (replayed before.store c) ∙ store-is before after c reached seen) (shape-after (over before.store c).entries before.store)
 
 pub seen-played : {A : Type 0} (given : List ℕ) (looping : Looping) (before : standings.Standing) (after : View) (c : Computing A) (reached : Reached Event Failure A) (next : A → Computing Unit)
-    → seen_over before.cells c ≡ (after, reached)
+    → seen_over before.ledger c ≡ (after, reached)
     → played looping (at_of given before) (sequence c next) ≡ resumed_from looping (record { store = after.store; input = given; used = length before.output }) reached next
 seen-played given looping before after c reached next seen =
-    let stores = store-is before.cells after c reached seen in
-    let ends = reached-is before.cells after c reached seen in
+    let stores = store-is before.ledger after c reached seen in
+    let ends = reached-is before.ledger after c reached seen in
     played-then looping (at_of given before) c next
     ∙ (λ i. resumed_from looping (record { store = stores i; input = given; used = length before.output }) (ends i) next)
 
 -- ---- acts that leave the output
 
 abbrev pub moved : standings.Standing → View → standings.Standing
-moved before after = record { cells = after; output = before.output; loops = before.loops }
+moved before after = record { ledger = after; output = before.output; loops = before.loops }
 
-pub steps-on : {act : Callee → Act Flow} (looping : Looping) (symbols : List Symbol) (before : standings.Standing) (after : View) → Walks goes_on [] before.cells act after (Ok tt)
+pub steps-on : {act : Callee → Act Flow} (looping : Looping) (symbols : List Symbol) (before : standings.Standing) (after : View) → Stays (λ (done : Unit {0}). on) [] before.ledger act after (Ok tt)
     → Steps looping symbols before (moved before after) act None
 steps-on {act = act} looping symbols before after walks =
     record {
       is = λ given call turns next.
-          ap (told_behind before.output) (seen-played given looping before after (act call (state_in [] turns)) (done (on, state_in [] turns)) next (walks.answers call turns));
+          ap (told_behind before.output) (seen-played given looping before after (act call (state_in [] turns)) (done (on, state_in [] turns)) next ((walks.each turns).answers call));
       own = tt;
     }
 
@@ -70,11 +68,11 @@ nothing-more written ending = λ i. record { output = append-nil written i; endi
 
 -- a statement that isn't carried out
 pub steps-bad : {tell : Unit {0} → Flow} {act : Callee → Act Flow} (looping : Looping) (symbols : List Symbol) (before : standings.Standing) (after : View) (stop : Stop) (met : Option code.Ending)
-    → Walks tell [] before.cells act after (Err stop) → IsEndBy stop met → Steps looping symbols before (moved before after) act met
+    → Stays tell [] before.ledger act after (Err stop) → IsEndBy stop met → Steps looping symbols before (moved before after) act met
 steps-bad {act = act} looping symbols before after (Stop.Failed why line) met walks is =
     record {
       is = λ given call turns next.
-          ap (told_behind before.output) (seen-played given looping before after (act call (state_in [] turns)) (bad (record { why = why; line = line })) next (walks.answers call turns))
+          ap (told_behind before.output) (seen-played given looping before after (act call (state_in [] turns)) (bad (record { why = why; line = line })) next ((walks.each turns).answers call))
           ∙ nothing-more before.output (endings.bad (record { why = why; line = line }))
           ∙ ap (told_after given looping symbols (moved before after) (next (on, state_in [] turns))) (sym is);
       own = subst (MeetsOwn symbols) (sym is) tt;
@@ -95,36 +93,27 @@ steps-as looping symbols before after met same steps =
 any-call : Callee
 any-call procedure line given = just None
 
-pub walked-shape : {A B : Type 0} {tell : A → B} {act : Callee → Act B} (before after : View) (a : A) → Walks tell [] before act after (Ok a) → SameShape before.store after.store
+pub walked-shape : {A B : Type 0} {tell : A → B} {act : Callee → Act B} (before after : View) (a : A) → Stays tell [] before act after (Ok a) → SameShape before.store after.store
 walked-shape {tell = tell} {act = act} before after a walks =
-    seen-shape before after (act any-call (state_in [] 0)) (done (tell a, state_in [] 0)) (walks.answers any-call 0)
+    seen-shape before after (act any-call (state_in [] 0)) (done (tell a, state_in [] 0)) ((walks.each 0).answers any-call)
 
-pub failed-shape : {A B : Type 0} {tell : A → B} {act : Callee → Act B} (before after : View) (stop : Stop) (met : Option code.Ending) → Walks tell [] before act after (Err stop) → IsEndBy stop met
+pub failed-shape : {A B : Type 0} {tell : A → B} {act : Callee → Act B} (before after : View) (stop : Stop) (met : Option code.Ending) → Stays tell [] before act after (Err stop) → IsEndBy stop met
     → SameShape before.store after.store
 failed-shape {act = act} before after (Stop.Failed why line) met walks is =
-    seen-shape before after (act any-call (state_in [] 0)) (bad (record { why = why; line = line })) (walks.answers any-call 0)
+    seen-shape before after (act any-call (state_in [] 0)) (bad (record { why = why; line = line })) ((walks.each 0).answers any-call)
 failed-shape before after Stop.NoMemory met walks is = absurd is
 
-pub usual-moved : (symbols : List Symbol) (before : standings.Standing) (after : View) → IsUsual symbols before → SameShape before.cells.store after.store → IsUsual symbols (moved before after)
+pub usual-moved : (symbols : List Symbol) (before : standings.Standing) (after : View) → IsUsual symbols before → SameShape before.ledger.store after.store → IsUsual symbols (moved before after)
 usual-moved symbols before after usual shape =
-    record { shape = shape-then (first_store symbols) before.cells.store after.store usual.shape shape; room = usual.room }
+    record { shape = shape-then (first_store symbols) before.ledger.store after.store usual.shape shape; room = usual.room }
 
 -- ---- output
 
-abbrev all-pieces : List ℤ → List Piece
-all-pieces zs = map (piece (whole Kind.K4)) zs
+abbrev all-of : List (List CodePiece) → List (List Piece)
+all-of made = map (map piece_of) made
 
--- what is written by one item
-pieces-text : (zs : List ℤ) → map piece_text (flat_map (λ (items : List Piece). items) (all-pieces zs ∷ [])) ≡ map signed_decimal zs
-pieces-text [] = refl
-pieces-text (z ∷ zs) = ap (λ texts. signed_decimal z ∷ texts) (pieces-text zs)
-
-abbrev written-then : ℕ → List Piece → Act Flow
-written-then line first = paused_for (write_line line (flat_map (λ items. items) (first ∷ []))) >> just on
-
-printing-is : (scope : Scope) (call : Callee) (line : ℕ) (tree : Tree) → printing scope call line (tree ∷ []) ≡ (pieces scope call line tree >>= written-then line)
-printing-is scope call line tree =
-    acts-then (pieces scope call line tree) (λ first. just [] >>= (λ rest. just (first ∷ rest))) (λ given. paused_for (write_line line (flat_map (λ items. items) given)) >> just on)
+abbrev written-then : ℕ → List (List Piece) → Act Flow
+written-then line given = paused_for (write_line line (flat_map (λ items. items) given)) >> just on
 
 module _ (given : List ℕ) (looping : Looping) (symbols : List Symbol) (before : standings.Standing) (after : View) (line : ℕ) (bytes output : List ℕ) (next : Computing Unit) where
   abbrev behind-line : ℕ → Outcome
@@ -136,7 +125,7 @@ module _ (given : List ℕ) (looping : Looping) (symbols : List Symbol) (before 
 
   output-step : (met : Option code.Ending) → IsWritten line bytes before.output output met
       → told_behind before.output (line-written (nat_le (length before.output + length bytes) greatest_output))
-      ≡ told_after given looping symbols (record { cells = after; output = output; loops = before.loops }) next met
+      ≡ told_after given looping symbols (record { ledger = after; output = output; loops = before.loops }) next met
   output-step None (room, is) =
       let fits : nat_le (length before.output + length bytes) greatest_output ≡ true = search (arith, room) in
       let long : length before.output + length bytes ≡ length (before.output ++ bytes) = sym (length-append before.output bytes) in
@@ -154,38 +143,32 @@ written-own : (symbols : List Symbol) (line : ℕ) (bytes before output : List �
 written-own symbols line bytes before output None written = tt
 written-own symbols line bytes before output (Some ending) (full, (is, ends)) = subst (NamesOwn symbols) (sym ends) tt
 
--- an output statement whose item has values
-pub steps-print : (looping : Looping) (symbols : List Symbol) (before : standings.Standing) (after : View) (scope : Scope) (line : ℕ) (tree : Tree) (zs : List ℤ) (output : List ℕ) (met : Option code.Ending)
-    → Walks all-pieces [] before.cells (λ call. pieces scope call line tree) after (Ok zs) → IsWritten line (numbers_line zs) before.output output met
-    → Steps looping symbols before (record { cells = after; output = output; loops = before.loops }) (λ call. printing scope call line (tree ∷ [])) met
-steps-print looping symbols before after scope line tree zs output met walks written =
+-- an output statement whose items have values
+pub steps-print : (looping : Looping) (symbols : List Symbol) (before : standings.Standing) (after : View) (scope : Scope) (line : ℕ) (trees : List Tree) (made : List (List CodePiece)) (output : List ℕ) (met : Option code.Ending)
+    → Stays all-of [] before.ledger (λ call. for_each (pieces scope call line) trees) after (Ok made) → IsWritten line (pieces_line made) before.output output met
+    → Steps looping symbols before (record { ledger = after; output = output; loops = before.loops }) (λ call. printing scope call line trees) met
+steps-print looping symbols before after scope line trees made output met walks written =
     record {
       is = λ given call turns next.
-          let first = pieces scope call line tree (state_in [] turns) in
-          ap (λ a. told_behind before.output (played looping (at_of given before) (sequence (a (state_in [] turns)) next))) (printing-is scope call line tree)
-          ∙ ap (λ c. told_behind before.output (played looping (at_of given before) c)) (sequence-then first (λ w. written-then line w.0 w.1) next)
+          let first = for_each (pieces scope call line) trees (state_in [] turns) in
+          ap (λ c. told_behind before.output (played looping (at_of given before) c)) (sequence-then first (λ w. written-then line w.0 w.1) next)
           ∙ ap (told_behind before.output)
-          (seen-played given looping before after first (done (all-pieces zs, state_in [] turns)) (λ w. sequence (written-then line w.0 w.1) next) (walks.answers call turns))
-          ∙ ap
-          (λ texts.
-          told_behind before.output
-          (writes (record { store = after.store; input = given; used = length before.output }) line (line_of texts) (λ then_at told. played looping then_at (next (on, state_in [] turns)))))
-          (pieces-text zs)
-          ∙ output-step given looping symbols before after line (numbers_line zs) output (next (on, state_in [] turns)) met written;
-      own = written-own symbols line (numbers_line zs) before.output output met written;
+          (seen-played given looping before after first (done (all-of made, state_in [] turns)) (λ w. sequence (written-then line w.0 w.1) next) ((walks.each turns).answers call))
+          ∙ output-step given looping symbols before after line (pieces_line made) output (next (on, state_in [] turns)) met written;
+      own = written-own symbols line (pieces_line made) before.output output met written;
     }
 
--- an item that isn't defined
-pub steps-print_bad : {tell : List ℤ → List Piece} (looping : Looping) (symbols : List Symbol) (before : standings.Standing) (after : View) (scope : Scope) (line : ℕ) (tree : Tree) (stop : Stop) (met : Option code.Ending)
-    → Walks tell [] before.cells (λ call. pieces scope call line tree) after (Err stop) → IsEndBy stop met
-    → Steps looping symbols before (moved before after) (λ call. printing scope call line (tree ∷ [])) met
-steps-print_bad looping symbols before after scope line tree stop met walks is =
-    steps-bad looping symbols before after stop met
-    (walks-as (λ call. printing-is scope call line tree) (walks-bad {A = Unit {0}} {tell = goes_on} (λ call. written-then line) walks)) is
+-- an item that isn't evaluated
+pub steps-print_bad : {A : Type 0} {tell : A → List (List Piece)} (looping : Looping) (symbols : List Symbol) (before : standings.Standing) (after : View) (scope : Scope) (line : ℕ) (trees : List Tree) (stop : Stop)
+    (met : Option code.Ending)
+    → Stays tell [] before.ledger (λ call. for_each (pieces scope call line) trees) after (Err stop) → IsEndBy stop met
+    → Steps looping symbols before (moved before after) (λ call. printing scope call line trees) met
+steps-print_bad looping symbols before after scope line trees stop met walks is =
+    steps-bad looping symbols before after stop met (stays-bad {A = Unit {0}} {tell = λ done. on} (λ call. written-then line) walks) is
 
 -- what is known stays where a line was written
 pub usual-written : (symbols : List Symbol) (before : standings.Standing) (after : View) (line : ℕ) (bytes output : List ℕ) (met : Option code.Ending) → IsUsual symbols (moved before after)
-    → IsWritten line bytes before.output output met → IsUsual symbols (record { cells = after; output = output; loops = before.loops })
+    → IsWritten line bytes before.output output met → IsUsual symbols (record { ledger = after; output = output; loops = before.loops })
 usual-written symbols before after line bytes output None usual (room, is) =
     let long : length output ≡ length before.output + length bytes = ap length is ∙ length-append before.output bytes in
     record { shape = usual.shape; room = omega (arith, long, room) }
@@ -196,25 +179,26 @@ usual-written symbols before after line bytes output (Some ending) usual (full, 
 
 -- ---- the same, told otherwise
 
-pub usual-behind : (symbols : List Symbol) (before : standings.Standing) (after : View) (loops : ℕ) → IsUsual symbols before → SameShape before.cells.store after.store
-    → IsUsual symbols (record { cells = after; output = before.output; loops = loops })
+pub usual-behind : (symbols : List Symbol) (before : standings.Standing) (after : View) (loops : ℕ) → IsUsual symbols before → SameShape before.ledger.store after.store
+    → IsUsual symbols (record { ledger = after; output = before.output; loops = loops })
 usual-behind symbols before after loops usual shape =
-    record { shape = shape-then (first_store symbols) before.cells.store after.store usual.shape shape; room = usual.room }
+    record { shape = shape-then (first_store symbols) before.ledger.store after.store usual.shape shape; room = usual.room }
 
 pub steps-to : {act : Callee → Act Flow} (looping : Looping) (symbols : List Symbol) (before after : standings.Standing) (met said : Option code.Ending) → met ≡ said
     → Steps looping symbols before after act said → Steps looping symbols before after act met
 steps-to {act = act} looping symbols before after met said same steps = subst (Steps looping symbols before after act) (sym same) steps
 
-pub steps-printed : (looping : Looping) (symbols : List Symbol) (before : standings.Standing) (after : View) (scope : Scope) (line : ℕ) (tree : Tree) (zs shown : List ℤ) (output : List ℕ) (met : Option code.Ending) → shown ≡ zs
-    → Walks all-pieces [] before.cells (λ call. pieces scope call line tree) after (Ok zs) → IsWritten line (numbers_line shown) before.output output met
-    → Steps looping symbols before (record { cells = after; output = output; loops = before.loops }) (λ call. printing scope call line (tree ∷ [])) met
-steps-printed looping symbols before after scope line tree zs shown output met same walks written =
-    steps-print looping symbols before after scope line tree zs output met walks (subst (λ ys. IsWritten line (numbers_line ys) before.output output met) same written)
+pub steps-printed : (looping : Looping) (symbols : List Symbol) (before : standings.Standing) (after : View) (scope : Scope) (line : ℕ) (trees : List Tree) (made shown : List (List CodePiece)) (output : List ℕ)
+    (met : Option code.Ending) → shown ≡ made
+    → Stays all-of [] before.ledger (λ call. for_each (pieces scope call line) trees) after (Ok made) → IsWritten line (pieces_line shown) before.output output met
+    → Steps looping symbols before (record { ledger = after; output = output; loops = before.loops }) (λ call. printing scope call line trees) met
+steps-printed looping symbols before after scope line trees made shown output met same walks written =
+    steps-print looping symbols before after scope line trees made output met walks (subst (λ given. IsWritten line (pieces_line given) before.output output met) same written)
 
 -- where accesses are forgotten first
-pub steps-fresh : {act : Callee → Act Flow} (looping : Looping) (symbols : List Symbol) (before after : standings.Standing) (cells : View) (met : Option code.Ending) → cells ≡ record { store = before.cells.store; entries = [] }
-    → Steps looping symbols (moved before cells) after act met → Steps looping symbols before after act met
-steps-fresh {act = act} looping symbols before after cells met same steps =
+pub steps-fresh : {act : Callee → Act Flow} (looping : Looping) (symbols : List Symbol) (before after : standings.Standing) (ledger : View) (met : Option code.Ending) → ledger ≡ record { store = before.ledger.store; entries = [] }
+    → Steps looping symbols (moved before ledger) after act met → Steps looping symbols before after act met
+steps-fresh {act = act} looping symbols before after ledger met same steps =
     record {
       is = λ given call turns next.
           ap (λ (v : View). told_behind before.output (played looping (record { store = v.store; input = given; used = length before.output }) (sequence (act call (state_in [] turns)) next))) (sym same) ∙ steps.is given call turns next;

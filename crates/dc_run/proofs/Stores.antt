@@ -1,18 +1,15 @@
 -- Each store of a run fits the declared variables, and those around its loops are among them.
-use Rattle.std.proofs.Common.{◌≡◌, ℕ, zero, suc, ◌+◌, Bool, true, false, ◌&&◌, List, [], ◌∷◌, map, length, All, Option, Some, None, Result, Ok, Err, refl, sym, ap, ap₂, ◌∙◌, subst, lit<, eq-eqb}
+use Rattle.std.proofs.Common.{◌≡◌, ℕ, ◌+◌, Bool, true, false, ◌&&◌, List, [], ◌∷◌, map, length, All, Some, None, Result, Ok, Err, lit<}
 use Rattle.std.proofs.lemmas.Bool.{and_parts}
 use Rattle.std.proofs.lemmas.List.Elements.{All-nil, All-cons, All-weaker, Contains-get_or, Contains-append_left, Contains-append_right}
-use Rattle.std.proofs.lemmas.Option.{none-some, same_Some}
-use Rattle.std.specs.Prelude.{ℤ, pos, nat_eq, nat_le, replicate, if◌then◌else◌}
+use Rattle.std.specs.Prelude.{ℤ, pos, nat_le, if◌then◌else◌}
 use Rattle.std.specs.List.{list_all, Contains}
 use Rattle.dc_int.specs.declared.access.ElementId.{ElementId}
 use Rattle.dc_int.specs.declared.fault.FaultKind.{FaultKind}
-use Rattle.dc_int.specs.declared.kind.Kind.{Kind}
 use Rattle.dc_int.specs.declared.variable.Shape.{Shape}
-use Rattle.dc_int.specs.Shapes.{cell_fits, variable_fits, store_fits}
 use Rattle.dc_int.specs.Sorts.{Sort}
-use Rattle.dc_int.specs.Store.{Bounds, Store, elements_in, value_at, put_at, bounds_of}
-use Rattle.dc_int.proofs.Fits.{fits-put, undefined-fits}
+use Rattle.dc_int.specs.Store.{Store, value_at, put_at, bounds_of}
+use Rattle.dc_int.proofs.Fits.{fits-put}
 use Rattle.dc_code.specs.Computation.{give, fail, read, define, undefine, contribute, ask, pause}
 use Rattle.dc_code.specs.Inner.{judging}
 use Rattle.dc_code.specs.Troubles.{Computing, Slots, Event, write_line, take_value, take_elements, end_reading, enter_loop, stop}
@@ -20,68 +17,18 @@ use Rattle.dc_code.specs.Verdicts.{Verdict, go_on, at_header, in_iteration, race
 use Rattle.dc_code.specs.Visits.{Visited}
 use Rattle.dc_lists.specs.Input as input
 use Rattle.dc_lists.specs.Output.{line_of}
-use Rattle.dc_tree.specs.declared.symbols.Role.{Role}
 use Rattle.dc_tree.specs.declared.symbols.Symbol.{Symbol}
 use Rattle.dc_tree.specs.Blocks.{Source}
-use Rattle.dc_tree.specs.SmallPrograms.{is_small_program, is_small_symbol, is_small_role}
+use Rattle.dc_tree.specs.BuiltPrograms.{greatest_names, greatest_elements, elements_of_all, is_built_symbol, are_built_symbols, is_built}
+use Rattle.dc_tree.specs.Symbols.{is_sound}
 use Rattle.dc_meaning.specs.Programs.{first_store, main_computation}
+use Rattle.dc_meaning.proofs.Doing.{Any, Only}
 use Rattle.dc_meaning.proofs.EveryOrder.{visit-fits}
-use Rattle.dc_meaning.proofs.FirstStores.{begun, first-more}
-use Rattle.dc_meaning.proofs.Naming.{small-role, small-all}
-use Rattle.dc_meaning.proofs.Own.{AreDefault}
+use Rattle.dc_meaning.proofs.Passing.{built-source}
 use Rattle.dc_run.specs.Playing.{Visit, Outcome, Standing, Looping, piece_text, greatest_output, fails_with, behind_output, behind_visit, with_input, with_store, takes_one, takes_each, ends_reading, behind_loop, answered, played, looping_by, run}
 use Rattle.dc_run.specs.Stores.{declared_shapes, Fits, IsAmong, StoresFit, stores_taken, stores_taken_each, stores_read, stores_left, stores_behind, stores_from}
-use Rattle.dc_run.proofs.Beginnings.{small-parts}
-use Rattle.dc_run.proofs.Fitting.{TakesNothing, Keeps, main-keeps}
-
--- ---- the declared variables
-
-abbrev default_shape : ℕ → Shape
-default_shape elements = record { kind = Kind.K4; logical = false; elements = elements }
-
--- One variable more.
-shapes-more : (first : Symbol) (rest : List Symbol) (bounds : Bounds) → nat_eq first.scope 0 ≡ true → first.role ≡ Role.Variable false Kind.K4 bounds []
-    → declared_shapes (first ∷ rest) ≡ default_shape (elements_in bounds) ∷ declared_shapes rest
-shapes-more first rest bounds scope role = rw (scope, role) refl
-
-one-default : (elements : ℕ) (shapes : List Shape) → AreDefault shapes → AreDefault (default_shape elements ∷ shapes)
-one-default elements shapes all zero shape is = subst (λ (s : Shape). (s.kind ≡ Kind.K4) × (s.logical ≡ false)) (same_Some (default_shape elements) shape is) (refl, refl)
-one-default elements shapes all (suc variable) shape is = all variable shape is
-
-undefined-cells : (shape : Shape) (n : ℕ) → list_all (cell_fits shape) (replicate n None) ≡ true
-undefined-cells shape zero = refl
-undefined-cells shape (suc n) = undefined-cells shape n
-
-undefined-count : (n : ℕ) → length (replicate {A = Option ℤ} n None) ≡ n
-undefined-count zero = refl
-undefined-count (suc n) = ap suc (undefined-count n)
-
--- A variable that is undefined fits its shape.
-begun-fits : (bounds : Bounds) → variable_fits (default_shape (elements_in bounds)) (begun bounds) ≡ true
-begun-fits bounds =
-    let size = elements_in bounds in
-    ap₂ (λ a b. a && b) (eq-eqb size size refl)
-    (ap₂ (λ a b. a && b) (eq-eqb (length (replicate {A = Option ℤ} size None)) size (undefined-count size)) (undefined-cells (default_shape size) size))
-
--- The variables of a program of today's form are INTEGER of kind 4, and its first store fits them.
-record Begins (symbols : List Symbol) : Type 0 where
-  default : AreDefault (declared_shapes symbols)
-  fits : Fits symbols (first_store symbols)
-
-begins : (symbols : List Symbol) → list_all is_small_symbol symbols ≡ true → Begins symbols
-begins [] small = record { default = λ variable shape is. absurd (none-some shape is); fits = refl }
-begins (first ∷ rest) small =
-    let both = and_parts (is_small_symbol first) (list_all is_small_symbol rest) small in
-    let own = and_parts (nat_eq first.scope 0) (is_small_role first.role) both.0 in
-    let role = small-role first.role own.1 in
-    let more = shapes-more first rest role.0 own.0 role.1.0 in
-    let later = begins rest both.1 in
-    record {
-      default = subst AreDefault (sym more) (one-default (elements_in role.0) (declared_shapes rest) later.default);
-      fits =
-          ap₂ store_fits more (first-more first rest role.0 own.0 role.1.0)
-          ∙ ap₂ (λ a b. a && b) (begun-fits role.0) later.fits;
-    }
+use Rattle.dc_run.proofs.Fitting.{TakesNothing, keeping, shapes-sorted, main-keeps}
+use Rattle.dc_run.proofs.FirstFits.{first-fits}
 
 -- ---- a run
 
@@ -136,22 +83,22 @@ module _ (symbols : List Symbol) (looping : Looping)
       let found = looping number slots turns at.store in left-fit at found.verdict found.store found.turns later (kept number slots turns at.store fits) all
   behind-fit at stop later takes fits all = none-fit
 
-  from-fit : (at : Standing) (c : Computing Unit) → Keeps shapes c → Fits symbols at.store → AllFit (stores_from looping at c)
-  from-fit at (give end) keeps fits = none-fit
-  from-fit at (fail failure) keeps fits = none-fit
-  from-fit at (read x line rest) keeps fits = from-fit at (rest (value_at at.store x)) (keeps (value_at at.store x)) fits
-  from-fit at (define x z line rest) keeps fits =
+  from-fit : (at : Standing) (c : Computing Unit) → Only (keeping shapes) Any c → Fits symbols at.store → AllFit (stores_from looping at c)
+  from-fit at (give end) only fits = none-fit
+  from-fit at (fail failure) only fits = none-fit
+  from-fit at (read x line rest) only fits = from-fit at (rest (value_at at.store x)) (only.1 (value_at at.store x)) fits
+  from-fit at (define x z line rest) only fits =
       let store = put_at at.store x (Some z) in
-      let after : Fits symbols store = fits-put shapes at.store x (Some z) fits keeps.0 in
-      more-fit store (stores_from looping (with_store at store) rest) after (from-fit (with_store at store) rest keeps.1 after)
-  from-fit at (undefine x line rest) keeps fits =
+      let after : Fits symbols store = fits-put shapes at.store x (Some z) fits only.1 in
+      more-fit store (stores_from looping (with_store at store) rest) after (from-fit (with_store at store) rest only.2 after)
+  from-fit at (undefine x line rest) only fits =
       let store = put_at at.store x None in
-      let after : Fits symbols store = fits-put shapes at.store x None fits (undefined-fits shapes x) in
-      more-fit store (stores_from looping (with_store at store) rest) after (from-fit (with_store at store) rest keeps after)
-  from-fit at (contribute x op z rest) keeps fits = from-fit at rest keeps fits
-  from-fit at (ask variable rest) keeps fits = from-fit at (rest (bounds_of at.store variable)) (keeps (bounds_of at.store variable)) fits
-  from-fit at (pause event rest) keeps fits =
-      behind-fit at event (λ then_at told. stores_from looping then_at (rest told)) keeps.0 fits (λ then_at told after. from-fit then_at (rest told) (keeps.1 told) after)
+      let after : Fits symbols store = fits-put shapes at.store x None fits only.1 in
+      more-fit store (stores_from looping (with_store at store) rest) after (from-fit (with_store at store) rest only.2 after)
+  from-fit at (contribute x op z rest) only fits = absurd only
+  from-fit at (ask variable rest) only fits = from-fit at (rest (bounds_of at.store variable)) (only (bounds_of at.store variable)) fits
+  from-fit at (pause event rest) only fits =
+      behind-fit at event (λ then_at told. stores_from looping then_at (rest told)) only.0 fits (λ then_at told after. from-fit then_at (rest told) (only.1 told) after)
 
 -- ---- its loops
 
@@ -261,20 +208,28 @@ module _ (looping : Looping) where
   play-among at (pause event rest) =
       pause-among at event (λ then_at told. played looping then_at (rest told)) (λ then_at told. stores_from looping then_at (rest told)) (λ then_at told. play-among then_at (rest told))
 
+-- ---- a program
+
+all-built : (symbols : List Symbol) → are_built_symbols symbols ≡ true → list_all is_built_symbol symbols ≡ true
+all-built symbols built =
+    let few = nat_le (elements_of_all symbols) greatest_elements in
+    let parts = and_parts (nat_le (length symbols) greatest_names) (list_all is_built_symbol symbols && few) built in
+    (and_parts (list_all is_built_symbol symbols) few parts.1).0
+
 -- Each store of a run fits.
-pub stores-fit : (symbols : List Symbol) (source : Source) (turns : ℕ) (given : List ℕ) → is_small_program symbols source ≡ true
+pub stores-fit : (symbols : List Symbol) (source : Source) (turns : ℕ) (given : List ℕ) → list_all is_sound symbols ≡ true → is_built symbols source ≡ true
     → StoresFit symbols source turns given (run judging symbols source turns given).visits
-stores-fit symbols source turns given small =
-    let parts = small-parts symbols source small in
-    let start = begins symbols (small-all symbols parts.0).1 in
+stores-fit symbols source turns given sound built =
+    let parts = built-source symbols source built in
+    let start = first-fits symbols (all-built symbols parts.names) sound in
     let looping = looping_by judging symbols source turns in
     let at : Standing = record { store = first_store symbols; input = given; used = 0 } in
     let c = main_computation symbols source turns in
-    let keeps = main-keeps (declared_shapes symbols) start.default symbols source turns parts.1 in
     record {
       each =
-          All-cons (Fits symbols) (first_store symbols) (stores_from looping at c) start.fits
+          All-cons (Fits symbols) (first_store symbols) (stores_from looping at c) start
           (from-fit symbols looping
-          (λ number slots left store fits. visit-fits symbols source small turns number slots (declared_shapes symbols) start.default left store fits) at c keeps start.fits);
+          (λ number slots left store fits. visit-fits symbols source built turns number slots (declared_shapes symbols) (shapes-sorted symbols) left store fits) at c
+          (main-keeps symbols source turns parts.names parts.body) start);
       among = play-among looping at c;
     }

@@ -1,6 +1,5 @@
 -- How the runner goes about a main program of today's form, statement by statement. This project's own.
-use Rattle.std.specs.Prelude.{◌≡◌, ◌≤◌, ◌<◌, ℕ, ◌+◌, List, [], ◌∷◌, ◌++◌, map, length, Option, Some, None, ℤ}
-use Rattle.std.specs.Fmt.{signed_decimal}
+use Rattle.std.specs.Prelude.{◌≡◌, ◌≤◌, ◌<◌, ℕ, ◌+◌, Bool, true, false, List, [], ◌∷◌, ◌++◌, map, length, flat_map, Option, Some, None, ℤ}
 use Rattle.dc_int.specs.declared.fault.FaultKind.{FaultKind}
 use Rattle.dc_int.specs.declared.fault.Why.{Why}
 use Rattle.dc_int.specs.declared.access.Access.{Access}
@@ -16,15 +15,14 @@ use Rattle.dc_lists.specs.Output.{line_of}
 use Rattle.dc_tree.specs.declared.symbols.Symbol.{Symbol}
 use Rattle.dc_tree.specs.Blocks.{Line, Item, Items, loop}
 use Rattle.dc_tree.specs.Entities.{Scope}
-use Rattle.dc_tree.specs.Statements.{Name, Deed, print}
-use Rattle.dc_tree.specs.Syntax.{Tree, name}
+use Rattle.dc_meaning.specs.declared.output.Piece.{Piece}
 use Rattle.dc_meaning.specs.declared.stop.Stop.{Stop}
 use Rattle.dc_meaning.specs.Actions.{Flow, on}
 use Rattle.dc_meaning.specs.Acts.{State, Act}
 use Rattle.dc_meaning.specs.Alone.{nth_loop}
 use Rattle.dc_meaning.specs.Execution.{exec_all}
 use Rattle.dc_meaning.specs.Headers.{inside_frame}
-use Rattle.dc_meaning.specs.Judging.{combination}
+use Rattle.dc_meaning.specs.Pieces.{piece_of}
 use Rattle.dc_meaning.specs.Programs.{first_store}
 use Rattle.dc_meaning.specs.Values.{Callee}
 use Rattle.dc_meaning.specs.Visiting.{IsVisitable}
@@ -32,14 +30,26 @@ use Rattle.dc_meaning.specs.Walking.{state_in}
 use Rattle.dc_run.specs.declared.ending.Ending as code
 use Rattle.dc_run.specs.declared.running.Standing as standings
 use Rattle.dc_run.specs.Answered.{ending_of, IsElement, NamesOwn}
-use Rattle.dc_run.specs.Playing.{Outcome, Standing, Looping, greatest_output, played}
+use Rattle.dc_run.specs.Playing.{Outcome, Standing, Looping, piece_text, greatest_output, played}
 use Rattle.dc_run.specs.ReportLine.{Ending}
 
 -- ---- output
 
--- A line of numbers.
-abbrev pub numbers_line : List ℤ → List ℕ
-numbers_line zs = line_of (map signed_decimal zs)
+-- What texts add to a line: each stands behind a blank, but the first where none stands before it.
+abbrev pub behind_blanks : Bool → List (List ℕ) → List ℕ
+behind_blanks later [] = []
+behind_blanks true (text ∷ texts) = 32 ∷ (text ++ behind_blanks true texts)
+behind_blanks false (text ∷ texts) = text ++ behind_blanks true texts
+
+abbrev pub texts_of : List Piece → List (List ℕ)
+texts_of pieces = map piece_text (map piece_of pieces)
+
+abbrev pub all_texts : List (List Piece) → List (List ℕ)
+all_texts given = map piece_text (flat_map (λ items. items) (map (map piece_of) given))
+
+-- The line of the pieces of all items.
+abbrev pub pieces_line : List (List Piece) → List ℕ
+pieces_line given = line_of (all_texts given)
 
 -- A line is written whole, or the output would be too long and the run ends.
 abbrev pub IsWritten : ℕ → List ℕ → List ℕ → List ℕ → Option code.Ending → Type 0
@@ -47,20 +57,11 @@ IsWritten line bytes before after None = (length before + length bytes ≤ great
 IsWritten line bytes before after (Some ending) =
     (greatest_output < length before + length bytes) × ((after ≡ before) × (ending ≡ code.Ending.Bad (Why.Fault FaultKind.OutputFull) line))
 
--- The variable that an item names, and an output statement that has one item.
-abbrev pub name_in : Tree → Option Name
-name_in (name text) = Some text
-name_in other = None
-
-abbrev pub printed : Deed → Option Name
-printed (print written (item ∷ [])) = name_in item
-printed other = None
-
 -- ---- statements
 
 -- Where a run stands with this input, without what it wrote.
 abbrev pub at_of : List ℕ → standings.Standing → Standing
-at_of given standing = record { store = standing.cells.store; input = given; used = length standing.output }
+at_of given standing = record { store = standing.ledger.store; input = given; used = length standing.output }
 
 -- What a run writes, and how it ends.
 pub record Told : Type 0 where
@@ -103,7 +104,7 @@ stopped_by verdict = Some (code.Ending.Stopped verdict)
 -- What is known of a run where it stands: the variables are those that are declared, and the output isn't
 -- too long.
 pub record IsUsual (symbols : List Symbol) (standing : standings.Standing) : Type 0 where
-  pub shape : SameShape (first_store symbols) standing.cells.store
+  pub shape : SameShape (first_store symbols) standing.ledger.store
   pub room : length standing.output ≤ greatest_output
 
 -- The loops that are still to come can be counted.
@@ -126,13 +127,11 @@ pub record RunsSo (looping : Looping) (number : ℕ) (loop : Loop) : Type 0 wher
 
 -- The accesses of an iteration alone are of elements that are there.
 pub record AccessesOwn (symbols : List Symbol) (loop : Loop) : Type 0 where
-  pub each
-      : (store : Store) (z : ℤ) (access : Access) → Made access (loop.block store [] (combination z)).entries
-      → IsElement symbols access.element
+  pub each : (store : Store) (at : List ℤ) (access : Access) → Made access (loop.block store [] at).entries → IsElement symbols access.element
 
 -- Where this is a loop, it can be visited as the one of this number, which accesses elements that are there.
 abbrev pub IsVisitableAt : Forms → List Symbol → ℕ → Item → Type 0
-IsVisitableAt forms symbols number (loop head block close) = IsVisitable (loop_in forms number) symbols head.says block × AccessesOwn symbols (loop_in forms number)
+IsVisitableAt forms symbols number (loop head block close) = IsVisitable (loop_in forms number) symbols head.line head.says block × AccessesOwn symbols (loop_in forms number)
 IsVisitableAt forms symbols number other = Unit
 
 -- An iteration leaves the elements of the store, and the bounds of its variables.
@@ -141,7 +140,7 @@ pub record KeepsShape (loop : Loop) : Type 0 where
 
 -- The loops of a main program can be visited, and access elements that are there.
 pub record AreVisitable (forms : Forms) (symbols : List Symbol) (items : Items) : Type 0 where
-  pub each : (number : ℕ) (head : Line) (block : Items) → nth_loop number items ≡ Some (head, block) → IsVisitable (loop_in forms number) symbols head.says block × AccessesOwn symbols (loop_in forms number)
+  pub each : (number : ℕ) (head : Line) (block : Items) → nth_loop number items ≡ Some (head, block) → IsVisitable (loop_in forms number) symbols head.line head.says block × AccessesOwn symbols (loop_in forms number)
 
 -- The rest of a main program.
 abbrev pub rest_of : Scope → Callee → ℕ → ℕ → Items → Computing Unit

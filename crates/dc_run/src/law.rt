@@ -6,5 +6,6 @@ ghost use Rattle.dc_run.specs.ReportLine.{subscripts_at};
 
 /// The subscripts that a report gives for an element of an array are those of that element.
 pub fn subscripts_lead_back()
-    ensures { (bounds : Bounds) (position : ℕ) → position < elements_in bounds → position_in bounds (subscripts_at bounds position) ≡ Some position }
+    ensures { (bounds : Bounds) (position : ℕ) → position < elements_in bounds
+        → position_in bounds (subscripts_at bounds position) ≡ Some position }
 {}

@@ -187,7 +187,8 @@ fn put_element(
     named: ElementId,
 ) -> Result<(), NoMemory>
     requires { IsThere (declared_bounds (variable_of symbols.now named)) named.position }
-    ensures { OnOk result (text.new ≡ text.old ++ element (outside_names symbols.now) (declared_bounds (variable_of symbols.now named)) named) }
+    ensures { let bounds = declared_bounds (variable_of symbols.now named) in
+        OnOk result (text.new ≡ text.old ++ element (outside_names symbols.now) bounds named) }
 {
     let Some(symbol) = outside(symbols, named.variable) else {
         return Ok(());
@@ -218,8 +219,10 @@ fn put_race(
     first_at: &[i64],
     second_at: &[i64],
 ) -> Result<(), NoMemory>
-    requires { IsThere (declared_bounds (variable_of symbols.now race.element)) race.element.position }
-    ensures { OnOk result (text.new ≡ text.old ++ race_text symbols.now race first_at.now second_at.now) }
+    requires { IsThere (declared_bounds (variable_of symbols.now race.element))
+        race.element.position }
+    ensures { OnOk result (text.new
+        ≡ text.old ++ race_text symbols.now race first_at.now second_at.now) }
 {
     text.append(b"race: ")?;
     put_element(alloc, text, symbols, race.element)?;
@@ -310,7 +313,8 @@ pub(crate) fn ending_line(
     ending: &Ending,
 ) -> Result<DcText, NoMemory>
     requires { NamesThere symbols.now ending.now }
-    ensures { IfOk result (λ made. made ≡ report_line (outside_names symbols.now) (ending_of symbols.now ending.now)) }
+    ensures { IfOk result (λ made. made
+        ≡ report_line (outside_names symbols.now) (ending_of symbols.now ending.now)) }
 {
     let mut text = DcText::new(alloc);
     match ending {

@@ -37,12 +37,17 @@ pub fn run<G: Gate + Sync>(
     requires some_workers { 1 ≤ workers }
     requires few_workers { workers ≤ 64 }
     requires short_input { length input.now ≤ 16777216 }
-    ensures reports { let symbols = (accepted.now).symbols in let source = source_of (accepted.now).program in
-        IfOk result (λ out. Reports symbols source turns input.now out.output (ending_of symbols out.ending)) }
+    ensures reports { let symbols = (accepted.now).symbols in
+        let source = source_of (accepted.now).program in
+        IfOk result (λ out.
+        Reports symbols source turns input.now out.output (ending_of symbols out.ending)) }
     ensures owns { IfOk result (λ out. NamesOwn (accepted.now).symbols out.ending) }
     ensures stops { IfOk result (λ out. out.ending ≢ Ending.Stopped Verdict.GoOn) }
 {
-    run_program(alloc, accepted.program(), accepted.symbols(), turns)
+    let symbols = accepted.symbols();
+    // The slice is taken for what it says of the names: each value that is declared is of its sort.
+    let _sound = symbols.as_slice();
+    run_program(alloc, accepted.program(), symbols, turns)
 }
 
 /// The line of the log that tells how a run of the source ended, with its line feed; empty where it came to
@@ -50,7 +55,8 @@ pub fn run<G: Gate + Sync>(
 pub fn report_line(alloc: Global, accepted: &Accepted, ending: &Ending) -> Result<DcText, NoMemory>
     requires { NamesOwn (accepted.now).symbols ending.now }
     ensures { let symbols = (accepted.now).symbols in
-        IfOk result (λ line. line ≡ lines.report_line (lines.outside_names symbols) (ending_of symbols ending.now)) }
+        IfOk result (λ line. line
+        ≡ lines.report_line (lines.outside_names symbols) (ending_of symbols ending.now)) }
 {
     ending_line(alloc, accepted.symbols(), ending)
 }

@@ -197,7 +197,23 @@ a_variable_hides_abs = refl
 a_call : known (of_one (codes "twice") (plain (codes "1"))) ≡ computed (Form.Whole Kind.K8)
 a_call = refl
 
--- the same from what is known of the arguments
+-- ---- at a LOGICAL, a function that takes INTEGERs gives an INTEGER; MERGE takes it
+
+huge_of_a_truth : known (of_one (codes "huge") (truth true)) ≡ whole Kind.K4 (pos 2147483647)
+huge_of_a_truth = refl
+
+total_of_truths : known (of_one (codes "sum") (truth true)) ≡ computed (Form.Whole Kind.K4)
+total_of_truths = refl
+
+least_of_truths : known (of_two (codes "min") (truth true) (truth false)) ≡ whole Kind.K4 (pos 0)
+unfolding int_wrap
+least_of_truths = refl
+
+merge_of_truths : known (refer (codes "merge") (arg false (truth false) (arg false (truth true) (arg false (truth true) no_args))))
+    ≡ record { form = Form.Logical; constant = true; value = Some (pos 0) }
+merge_of_truths = refl
+
+-- ---- the same from what is known of the arguments
 
 by_what_is_known : referred None (codes "huge") (failing (Form.Whole Kind.K1) ∷ []) ≡ whole Kind.K1 (pos 127)
 by_what_is_known = refl

@@ -1,5 +1,5 @@
 -- What is known of an expression, from what is known of its parts.
-use Rattle.std.proofs.Common.{◌≡◌, ℕ, ◌&&◌, List, ◌∷◌, map, Option, ℤ, refl, ap, ◌∙◌}
+use Rattle.std.proofs.Common.{◌≡◌, ℕ, ◌&&◌, List, ◌∷◌, map, Option, ℤ, refl, ap, ◌∙◌, append_assoc, append-nil}
 use Rattle.std.specs.List.{list_all}
 use Rattle.dc_int.specs.Sorts.{Sort, whole, logical}
 use Rattle.dc_tree.specs.declared.token.Mark.{Mark}
@@ -40,3 +40,6 @@ known-refer scope text args = rw (sorts-known scope args) (rw (values-known scop
 
 -- What is known of an expression is found from its parts.
 pub ruleset knowing = (known-paren, known-unary, known-binary, known-refer)
+
+-- Lists that are gathered item by item.
+pub ruleset gathering = (append_assoc, append-nil)

@@ -3,6 +3,7 @@ use Rattle.std.proofs.Common.{◌≡◌, ℕ, ◌+◌, ◌<◌, length, drop, ge
 use Rattle.std.specs.List.{list_all}
 use Rattle.std.proofs.lemmas.List.{drop_more}
 use Rattle.dc_int.specs.declared.operation.Op.{Op}
+use Rattle.dc_int.specs.declared.operation.OpFault.{OpFault}
 use Rattle.dc_int.specs.Operations.{Outcome, applied}
 use Rattle.dc_int.specs.Sorts.{Sort, kind_of}
 use Rattle.dc_tree.specs.Entities.{Entity, outside, slots, dummy, constant, function, subroutine, reduction, nothing, Scope, entity}
@@ -142,6 +143,27 @@ chosen_from-next op sort a number value args i d within is gives =
     ap (λ (l : List Known). value_of (chosen_from op sort a (map number_given l))) (drop_more args i d within)
     ∙ ap (λ (z : ℤ). value_of (chosen_from op sort a (z ∷ map number_given (drop (i + 1) args)))) (sym is)
     ∙ chosen_from-value op sort a number value (map number_given (drop (i + 1) args)) gives
+
+-- the same with the fault
+pub chosen_from-ok : (op : Op) (sort : Sort) (a b value : ℤ) (rest : List ℤ)
+    → Ok value ≡ applied op (kind_of sort) a b → chosen_from op sort a (b ∷ rest) ≡ chosen_from op sort value rest
+chosen_from-ok op sort a b value rest is = ap (λ (outcome : Outcome). behind outcome (λ z. chosen_from op sort z rest)) (sym is)
+
+pub chosen_from-err : (op : Op) (sort : Sort) (a b : ℤ) (fault : OpFault) (rest : List ℤ)
+    → Err fault ≡ applied op (kind_of sort) a b → Err fault ≡ chosen_from op sort a (b ∷ rest)
+chosen_from-err op sort a b fault rest is = ap (λ (outcome : Outcome). behind outcome (λ z. chosen_from op sort z rest)) is
+
+pub chosen_from-on : (op : Op) (sort : Sort) (a number value : ℤ) (values : List ℤ) (i : ℕ) (d : ℤ)
+    → i < length values → number ≡ get_or values i d → Ok value ≡ applied op (kind_of sort) a number → chosen_from op sort a (drop i values) ≡ chosen_from op sort value (drop (i + 1) values)
+chosen_from-on op sort a number value values i d within is gives =
+    ap (λ (l : List ℤ). chosen_from op sort a l) (drop_more values i d within) ∙ ap (λ (z : ℤ). chosen_from op sort a (z ∷ drop (i + 1) values)) (sym is)
+    ∙ chosen_from-ok op sort a number value (drop (i + 1) values) gives
+
+pub chosen_from-stop : (op : Op) (sort : Sort) (a number : ℤ) (fault : OpFault) (values : List ℤ) (i : ℕ) (d : ℤ)
+    → i < length values → number ≡ get_or values i d → Err fault ≡ applied op (kind_of sort) a number → Err fault ≡ chosen_from op sort a (drop i values)
+chosen_from-stop op sort a number fault values i d within is gives =
+    chosen_from-err op sort a number fault (drop (i + 1) values) gives ∙ ap (λ (z : ℤ). chosen_from op sort a (z ∷ drop (i + 1) values)) is
+    ∙ sym (ap (λ (l : List ℤ). chosen_from op sort a l) (drop_more values i d within))
 
 pub ruleset choices = (chosen_from-value, chosen_from-fault, drop_more)
 

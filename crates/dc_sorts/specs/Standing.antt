@@ -1,6 +1,6 @@
 -- Where an expression stands: which names can be used there, and which of these may not be defined. After
 -- ISO/IEC 1539-1:2023, clauses 11.1.7.2, 11.1.7.4.3 and 19.4.
-use Rattle.std.specs.Prelude.{ℕ, zero, suc, Bool, ◌||◌, List, [], ◌∷◌, map, bytes_eq, Option, Some, None, if◌then◌else◌}
+use Rattle.std.specs.Prelude.{ℕ, zero, suc, Bool, ◌||◌, List, [], ◌∷◌, map, length, bytes_eq, Option, Some, None, if◌then◌else◌}
 use Rattle.std.specs.List.{list_any}
 use Rattle.dc_int.specs.declared.kind.Kind.{Kind}
 use Rattle.dc_int.specs.Sorts.{whole}
@@ -62,4 +62,4 @@ abbrev pub index_entity : IndexName → Name × Entity
 index_entity index = (index.name, slots 0 (whole index.kind) [])
 
 abbrev pub scope_at : Standing → Scope
-scope_at standing = with_names (map index_entity standing.indexes) 0 (unit_scope standing.symbols standing.unit)
+scope_at standing = with_names (map index_entity standing.indexes) (length standing.indexes) (unit_scope standing.symbols standing.unit)

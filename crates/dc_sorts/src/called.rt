@@ -15,13 +15,13 @@ ghost use Rattle.dc_sorts.specs.References as references;
 ghost use Rattle.dc_sorts.specs.References.{has_value, number_given};
 ghost use Rattle.dc_sorts.specs.Standing.{standing_of, scope_at};
 
-use crate::form::Form;
+use crate::form::{Form, fitted, kind_of};
 use crate::intrinsic::{Intrinsic, intrinsic_named};
-use crate::known::{Known, applied, kind_of};
+use crate::known::{Known, applied};
 use crate::meaning::Meaning;
 use crate::naming::{form_of_meaning, kind_numbered};
 use crate::standing::Standing;
-use dc_int::{Kind, Op, wrap_to};
+use dc_int::{Kind, Op};
 
 fn kind_number(kind: Kind) -> i64
     ensures { result ≡ literals.kind_number kind }
@@ -31,15 +31,6 @@ fn kind_number(kind: Kind) -> i64
         Kind::K2 => 2,
         Kind::K4 => 4,
         Kind::K8 => 8,
-    }
-}
-
-fn fitted(form: Form, value: i64) -> i64
-    ensures { result ≡ fitted (sort_of_form form) value }
-{
-    match form {
-        Form::Whole(kind) => wrap_to(kind, i128::from(value)),
-        Form::Logical => value,
     }
 }
 
@@ -116,7 +107,8 @@ fn first_form(args: &[Known]) -> Form
     }
 }
 
-fn kind_converted(args: &[Known]) -> Kind
+/// The kind to which INT converts its first argument.
+pub fn kind_converted(args: &[Known]) -> Kind
     ensures { result ≡ typing.kind_converted (map known_value args.now) }
 {
     match args {
@@ -140,10 +132,10 @@ fn form_called(function: Intrinsic, args: &[Known]) -> Form
         | Intrinsic::Count => Form::Whole(Kind::K4),
         Intrinsic::Operation(_)
         | Intrinsic::Chosen(_)
-        | Intrinsic::Merge
         | Intrinsic::Huge
         | Intrinsic::BitSize
-        | Intrinsic::Total => first_form(args),
+        | Intrinsic::Total => Form::Whole(kind_of(first_form(args))),
+        Intrinsic::Merge => first_form(args),
         Intrinsic::Converted => Form::Whole(kind_converted(args)),
         Intrinsic::Any | Intrinsic::All => Form::Logical,
     }
@@ -162,8 +154,8 @@ fn form_referred(declared: Option<Form>, function: Option<Intrinsic>, args: &[Kn
     }
 }
 
-/// What a function asks about the form of its first argument.
-fn about_kind(function: Intrinsic, form: Form) -> Option<i64>
+/// What HUGE, BIT_SIZE and KIND give of an argument of a form, which isn't evaluated.
+pub fn about_kind(function: Intrinsic, form: Form) -> Option<i64>
     ensures { result ≡ operating.about_kind (function_of function) (sort_of_form form) }
 {
     match function {

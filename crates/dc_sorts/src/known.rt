@@ -2,7 +2,6 @@
 
 ghost use Rattle.std.specs.Prelude.{◌≡◌, option_and_then, if◌then◌else◌};
 ghost use Rattle.dc_int.specs.Operations.{applied};
-ghost use Rattle.dc_int.specs.Reductions.{conjunction, disjunction, equivalence, non_equivalence};
 ghost use Rattle.dc_int.specs.Sorts.{logical, kind_of};
 ghost use Rattle.dc_tree.specs.Operating as operating;
 ghost use Rattle.dc_tree.specs.Syntax as syntax;
@@ -12,9 +11,10 @@ ghost use Rattle.dc_sorts.specs.Forms.{form_of_sort, sort_of_form};
 ghost use Rattle.dc_sorts.specs.Knowing as knowing;
 ghost use Rattle.dc_sorts.specs.Standing.{standing_of, scope_at};
 
-use crate::form::Form;
+use crate::form::{Form, joined_form};
+use crate::operating::{join_values, lead_value, operate};
 use crate::standing::Standing;
-use dc_int::{Kind, Op, apply};
+use dc_int::{Op, OpFault};
 use dc_tree::Mark;
 
 /// The form of an expression, whether it is a constant expression, and its value. There is none where it is no
@@ -38,43 +38,18 @@ pub fn known_truth(_standing: &Standing, value: bool) -> Known
     }
 }
 
-/// The kind at which the operations on values of a form go; it is 4 for LOGICAL.
-pub(crate) fn kind_of(form: Form) -> Kind
-    ensures { result ≡ kind_of (sort_of_form form) }
+/// The value, where there is no fault.
+fn value_of(outcome: Result<i64, OpFault>) -> Option<i64>
+    ensures { result ≡ value_of outcome }
 {
-    match form {
-        Form::Whole(kind) => kind,
-        Form::Logical => Kind::K4,
-    }
+    outcome.ok()
 }
 
 /// What an operation gives, where it meets no fault.
 pub(crate) fn applied(op: Op, form: Form, a: i64, b: i64) -> Option<i64>
     ensures { result ≡ value_of (applied op (kind_of (sort_of_form form)) a b) }
 {
-    match apply(op, kind_of(form), a, b) {
-        Ok(value) => Some(value),
-        Err(_) => None,
-    }
-}
-
-fn wider(a: Kind, b: Kind) -> Kind
-    ensures { result ≡ typing.wider a b }
-{
-    if a.bits() < b.bits() { b } else { a }
-}
-
-/// The form to which two operands are brought.
-fn joined_form(a: Form, b: Form) -> Form
-    ensures { sort_of_form result ≡ typing.joined (sort_of_form a) (sort_of_form b) }
-{
-    match a {
-        Form::Whole(first) => match b {
-            Form::Whole(second) => Form::Whole(wider(first, second)),
-            Form::Logical => Form::Logical,
-        },
-        Form::Logical => Form::Logical,
-    }
+    value_of(operate(op, form, a, b))
 }
 
 fn is_arithmetic(mark: Mark) -> bool
@@ -107,78 +82,13 @@ fn form_led_by(mark: Mark, form: Form) -> Form
     }
 }
 
-fn conjunction(a: i64, b: i64) -> i64
-    ensures { result ≡ conjunction a b }
-{
-    i64::from(a != 0 && b != 0)
-}
-
-fn disjunction(a: i64, b: i64) -> i64
-    ensures { result ≡ disjunction a b }
-{
-    i64::from(a != 0 || b != 0)
-}
-
-fn equivalence(a: i64, b: i64) -> i64
-    ensures { result ≡ equivalence a b }
-{
-    i64::from((a != 0) == (b != 0))
-}
-
-fn non_equivalence(a: i64, b: i64) -> i64
-    ensures { result ≡ non_equivalence a b }
-{
-    i64::from((a != 0) != (b != 0))
-}
-
-fn is_equal(a: i64, b: i64) -> bool
-    ensures { result ≡ operating.is_equal a b }
-{
-    a == b
-}
-
-/// The value that a mark makes of two values, which are of one form.
-fn joined(mark: Mark, form: Form, a: i64, b: i64) -> Option<i64>
-    ensures { result ≡ value_of (operating.joined_by mark (sort_of_form form) a b) }
-{
-    match mark {
-        Mark::Plus => applied(Op::Add, form, a, b),
-        Mark::Minus => applied(Op::Sub, form, a, b),
-        Mark::Times => applied(Op::Mul, form, a, b),
-        Mark::Slash => applied(Op::Div, form, a, b),
-        Mark::Power => applied(Op::Pow, form, a, b),
-        Mark::Eq => Some(i64::from(is_equal(a, b))),
-        Mark::Ne => Some(i64::from(!is_equal(a, b))),
-        Mark::Lt => Some(i64::from(a < b)),
-        Mark::Le => Some(i64::from(a <= b)),
-        Mark::Gt => Some(i64::from(a > b)),
-        Mark::Ge => Some(i64::from(a >= b)),
-        Mark::And => Some(conjunction(a, b)),
-        Mark::Or => Some(disjunction(a, b)),
-        Mark::Eqv => Some(equivalence(a, b)),
-        Mark::Neqv => Some(non_equivalence(a, b)),
-        _ => Some(a),
-    }
-}
-
-/// The value that a mark in front of a value makes.
-fn led(mark: Mark, form: Form, a: i64) -> Option<i64>
-    ensures { result ≡ value_of (operating.led_by mark (sort_of_form form) a) }
-{
-    match mark {
-        Mark::Minus => applied(Op::Neg, form, a, 0),
-        Mark::Not => Some(i64::from(a == 0)),
-        _ => Some(a),
-    }
-}
-
 fn joined_values(mark: Mark, form: Form, a: Option<i64>, b: Option<i64>) -> Option<i64>
     ensures { result ≡ option_and_then (λ a. option_and_then
         (λ b. value_of (operating.joined_by mark (sort_of_form form) a b)) b) a }
 {
     match a {
         Some(left) => match b {
-            Some(right) => joined(mark, form, left, right),
+            Some(right) => value_of(join_values(mark, form, left, right)),
             None => None,
         },
         None => None,
@@ -190,7 +100,7 @@ fn led_value(mark: Mark, form: Form, a: Option<i64>) -> Option<i64>
         ≡ option_and_then (λ a. value_of (operating.led_by mark (sort_of_form form) a)) a }
 {
     match a {
-        Some(right) => led(mark, form, right),
+        Some(right) => value_of(lead_value(mark, form, right)),
         None => None,
     }
 }

@@ -84,7 +84,7 @@ pub(crate) fn kind_numbered(value: i64) -> Kind
 
 /// The number that digits write, or the least one over every kind where it is as great as that.
 #[tactic(auto, using(crate::proofs::Capping::capped_digits))]
-fn number_of(digits: &[u8]) -> u64
+pub fn capped_number(digits: &[u8]) -> u64
     ensures { result ≡ naming.capped (literals.number_of digits.now) }
 {
     let mut number: u64 = 0;
@@ -107,7 +107,7 @@ fn with_digit(number: u64, digit: u8) -> u64
 fn digits_kind(digits: &[u8]) -> Kind
     ensures { result ≡ literals.kind_numbered (pos (literals.number_of digits.now)) }
 {
-    match number_of(digits) {
+    match capped_number(digits) {
         1 => Kind::K1,
         2 => Kind::K2,
         8 => Kind::K8,
@@ -130,7 +130,7 @@ fn literal_value(kind: Kind, number: u64) -> Option<i64>
 fn literal(kind: Kind, digits: &[u8]) -> Option<i64>
     ensures { result ≡ typing.literal_value kind (literals.number_of digits.now) }
 {
-    literal_value(kind, number_of(digits))
+    literal_value(kind, capped_number(digits))
 }
 
 /// The kind that a suffix names: none where its name is no constant.

@@ -1,5 +1,6 @@
 pub mod Back
 pub mod Blocks
+pub mod BuiltPrograms
 pub mod Entities
 pub mod Findings
 pub mod Grammar
@@ -11,7 +12,6 @@ pub mod Operating
 pub mod Places
 pub mod Ranking
 pub mod Reader
-pub mod SmallPrograms
 pub mod Spelling
 pub mod Statements
 pub mod StatementsBack

@@ -6,7 +6,7 @@ use Rattle.dc_int.specs.declared.operation.Op.{Op}
 use Rattle.dc_int.specs.Kinds.{bits_of, greatest_of}
 use Rattle.dc_int.specs.Operations.{Outcome}
 use Rattle.dc_int.specs.Reductions.{number_of_truth}
-use Rattle.dc_int.specs.Sorts.{Sort, whole, logical, fitted}
+use Rattle.dc_int.specs.Sorts.{Sort, whole, logical, kind_of, fitted}
 use Rattle.dc_tree.specs.declared.token.Mark.{Mark}
 use Rattle.dc_tree.specs.declared.token.Suffix.{Suffix}
 use Rattle.dc_tree.specs.Entities.{Entity, outside, slots, dummy, constant, function, reduction, nothing, Scope, entity}
@@ -68,16 +68,16 @@ kind_converted (first ∷ Some value ∷ []) = kind_numbered value
 kind_converted values = Kind.K4
 
 -- The sort of a function of the language, by that of its first argument and the constants among the
--- arguments.
+-- arguments. One that takes INTEGERs alone gives an INTEGER, also where its argument is none.
 abbrev pub sort_called : Intrinsic → Sort → List (Option ℤ) → Sort
 sort_called (operation Op.Popcnt) sort values = whole Kind.K4
-sort_called (operation op) sort values = sort
-sort_called (chosen op) sort values = sort
+sort_called (operation op) sort values = whole (kind_of sort)
+sort_called (chosen op) sort values = whole (kind_of sort)
 sort_called merge sort values = sort
 sort_called converted sort values = whole (kind_converted values)
-sort_called huge sort values = sort
-sort_called bit_size sort values = sort
-sort_called total sort values = sort
+sort_called huge sort values = whole (kind_of sort)
+sort_called bit_size sort values = whole (kind_of sort)
+sort_called total sort values = whole (kind_of sort)
 sort_called any sort values = logical
 sort_called all sort values = logical
 sort_called other sort values = whole Kind.K4

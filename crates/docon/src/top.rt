@@ -39,12 +39,13 @@ fn report<F: Files, G: Gate + Sync>(
 /// answers the status of the process. The command `run` runs the program of a file, and `check` only
 /// tells whether the file's source is accepted, by the same rules.
 ///
-/// **For every accepted source, whatever the input and whatever the gate does, what is written is the
-/// report of the source's run. Each loop that the run reaches ends with the one store that every order
-/// of its iterations gives, and the run goes on with that store. Or the run ends there, and the report
-/// names a fault or a spent limit with which one iteration ends every order that it begins, or an
-/// element and two iterations which, run first and in succession, break its restriction.** What goes
-/// wrong in the header of a loop or outside loops belongs to no iteration, and is reported as it comes.
+/// **For every accepted source that is run, whatever the input and whatever the gate does, what is
+/// written is the report of its run. Each loop that the run reaches ends with the one store that
+/// every order of its iterations gives, and the run goes on with that store. Or the run ends there,
+/// and the report names a fault or a spent limit with which one iteration ends every order that it
+/// begins, or an element and two iterations which, run first and in succession, break its
+/// restriction.** What goes wrong in the header of a loop or outside loops belongs to no iteration,
+/// and is reported as it comes.
 ///
 /// This is `Reports`, in `specs/Headline.antt` of dc_run, which the field `report` of `Answers` says of
 /// the source that was read, unless a write failed or memory was wanting. The field `causes` says where

@@ -23,12 +23,88 @@ struct Row<'a> {
     status: u8,
 }
 
-const ROWS: [Row<'static>; 15] = [
+const ROWS: [Row<'static>; 21] = [
     Row {
         lines: &[],
         out: "",
         log: "",
         status: 0,
+    },
+    // what binds first, and values of each kind of operation
+    Row {
+        lines: &["print *, -2**2, 7/(-2), mod(-7, 3), modulo(-7, 3), 2**(-3), 1 > 2 .or. .true."],
+        out: "-4 -3 -1 2 0 T\n",
+        log: "",
+        status: 0,
+    },
+    // a continued statement, and a literal with an apostrophe
+    Row {
+        lines: &[
+            "integer :: alpha; alpha = 4&",
+            "   &2 ! joined",
+            "print *, alpha, &",
+            "  'it''s'",
+        ],
+        out: "42 it's\n",
+        log: "",
+        status: 0,
+    },
+    // kinds, bounds, a named constant, and limits that are read
+    Row {
+        lines: &[
+            "integer, parameter :: n = 3",
+            "integer(1) :: b(-1:n, 2) = 100, low = -1",
+            "logical :: even(n)",
+            "integer :: i",
+            "do concurrent (i = low:ubound(b, 1))",
+            "  b(i, 2) = b(i, 1) + 50*i",
+            "end do",
+            "even = [.false., .true., .false.]",
+            "print *, sum(b), count(even), b(:n)",
+        ],
+        out: "",
+        log: "refused: line 10: K11\n",
+        status: 1,
+    },
+    Row {
+        lines: &[
+            "integer, parameter :: n = 3",
+            "integer(1) :: b(-1:n, 2) = 100, low = -1",
+            "logical :: even(n)",
+            "integer :: i",
+            "do concurrent (i = low:ubound(b, 1))",
+            "  b(i, 2) = b(i, 1) + 50*i",
+            "end do",
+            "even = [.false., .true., .false.]",
+            "print *, b, count(even), even",
+        ],
+        out: "100 100 100 100 100 50 100 -106 -56 -6 1 F T F\n",
+        log: "",
+        status: 0,
+    },
+    // a fault in one iteration, although a scalar clashes too
+    Row {
+        lines: &[
+            "integer :: t, i",
+            "do concurrent (i = 1:3)",
+            "  t = 6/(3-i)",
+            "end do",
+        ],
+        out: "",
+        log: "fault: DivideByZero: iteration (3): line 4\n",
+        status: 3,
+    },
+    // too many iterations, a fault of the header
+    Row {
+        lines: &[
+            "integer :: t, i",
+            "do concurrent (i = 1:4194305)",
+            "  t = i",
+            "end do",
+        ],
+        out: "",
+        log: "fault: TooManyIterations: line 3\n",
+        status: 3,
     },
     // an iteration reads what the one before defines
     Row {

@@ -30,6 +30,11 @@ fn values(rt: HostRuntime) -> Result<(), Fail> {
         ("2", "000000007", "7 7\n"),
         ("1", "999999999*999999999*999999999", "-1532731905\n"),
         ("2", "I  *\ti", "1 4\n"),
+        ("0", "i", "\n"),
+        ("04", "-i", "-1 -2 -3 -4\n"),
+        ("4", "i/2", "0 1 1 2\n"),
+        ("3", "-(i - 2)**2 + mod(i, 2)", "0 0 0\n"),
+        ("2", "1234567890", "1234567890 1234567890\n"),
     ];
     for (size, value, out) in table {
         let source = form(rt.alloc(), size, value)?;
@@ -42,24 +47,16 @@ fn values(rt: HostRuntime) -> Result<(), Fail> {
 
 #[test]
 fn refusals(rt: HostRuntime) -> Result<(), Fail> {
-    let not_built = "refused: line 1: K0\n";
     let no_statement = "refused: line 4: K11\n";
     let table = [
-        ("0", "i", not_built),
-        ("04", "i", not_built),
-        ("10000", "i", not_built),
         ("4", "", no_statement),
         ("4", "i*", no_statement),
-        ("4", "-i", not_built),
         ("4", "j", "refused: line 4: K20\n"),
         ("4", "a", "refused: line 4: K21\n"),
         ("4", "a(i, i)", "refused: line 4: K21\n"),
         ("n", "i", "refused: line 2: K20\n"),
         ("4", "2147483648", "refused: line 4: K29\n"),
         ("4", "i == i", "refused: line 4: K28\n"),
-        ("4", "1234567890", not_built),
-        ("4", "i/2", not_built),
-        ("4", "(i)", not_built),
     ];
     for (size, value, log) in table {
         let source = form(rt.alloc(), size, value)?;
@@ -77,7 +74,8 @@ fn checks(rt: HostRuntime) -> Result<(), Fail> {
         ("4", "i*i", "accepted\n", ""),
         ("4", "a(i+1)", "accepted\n", ""),
         ("4", "j", "", "refused: line 4: K20\n"),
-        ("4", "i/2", "", "refused: line 1: K0\n"),
+        ("4194300", "i/2", "accepted\n", ""),
+        ("4194304", "i/2", "", "refused: line 2: K24\n"),
     ];
     for (size, value, out, log) in table {
         let source = form(rt.alloc(), size, value)?;

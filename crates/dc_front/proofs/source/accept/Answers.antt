@@ -1,9 +1,5 @@
-use Rattle.std.proofs.Common.{◌≡◌, true, List, sym, ap, ◌∙◌}
 use Rattle.std.proofs.lemmas.Result.{err_from_is_err_and}
-use Rattle.dc_tree.specs.declared.symbols.Symbol.{Symbol}
 use Rattle.dc_tree.specs.Blocks.{source_of}
-use Rattle.dc_form.specs.Form.{is_built}
-use Rattle.dc_form.proofs.Declared.{built-small}
 use Rattle.dc_front.proofs.Accepting.{refused-so, refused-types}
 use Rattle.dc_front.proofs.source.accept.Goals as goal
 
@@ -17,8 +13,3 @@ returns-in_err-check_types c =
     let p = err_from_is_err_and c.from_residual-in_err-check_types.result c.from_residual-in_err-check_types.ensures.1 in
     rw (p.1, p.2)
     (refused-types c.args.text.now (source_of c.in_ok-program.program) c.in_ok-symbols.symbols c.in_err-check_types.field-0.0 c.in_ok-program.ensures c.in_ok-symbols.ensures c.in_err-check_types.ensures)
-
-pub invariant_of-result : goal.invariant_of-result
-invariant_of-result c =
-    built-small c.in_ok-symbols.symbols (source_of c.in_ok-program.program)
-    (ap (λ (l : List Symbol). is_built l (source_of c.in_ok-program.program)) (sym c.as_slice.ensures.symbols) ∙ sym c.is_built.ensures ∙ c.if-is_built.true)

@@ -1,37 +1,32 @@
-use Rattle.std.proofs.Common.{ap, ◌∙◌, sym, rules, [], ◌∷◌, Some}
-use Rattle.std.specs.Prelude.{map, option_map}
+use Rattle.std.proofs.Common.{ap, sym, rules, map}
+use Rattle.std.specs.Prelude.{option_map}
 use Rattle.std.specs.Int.{w64}
 use Rattle.std.proofs.lemmas.Int.{to_z-of_z}
 use Rattle.dc_tree.specs.Entities.{entity}
+use Rattle.dc_tree.specs.Statements.{target_of}
 use Rattle.dc_tree.specs.Syntax.{tree}
-use Rattle.dc_meaning.specs.WalkScope.{entity_of, own_of, scope_of}
-use Rattle.dc_meaning.specs.Storing.{assigned, assigned_whole}
-use Rattle.dc_meaning.proofs.Walking.{walks-as}
-use Rattle.dc_meaning.proofs.Storing.{target-item}
+use Rattle.dc_meaning.specs.Storing.{assigned}
+use Rattle.dc_meaning.specs.WalkScope.{scope_of}
+use Rattle.dc_meaning.proofs.Defining.{defines-plain}
+use Rattle.dc_meaning.proofs.Walking.{stays-as, stays-then, stays-bad, handed}
+use Rattle.dc_meaning.proofs.Storing.{goes_on, assignment-plain}
 use Rattle.dc_meaning.proofs.assign.assign.Goals as goal
 
-pub assign_element-requires-clause-small : goal.assign_element-requires-clause-small
-assign_element-requires-clause-small c =
-    (target-item (scope_of c.args.walk.now) c.args.target.now.name c.args.target.now.subscripts _ _ c.subscript-item.result c.in-Some.is c.as_slice.ensures c.subscript-item.is c.requires.small).1.1
+pub returns-in_err-given : goal.returns-in_err-given
+returns-in_err-given c =
+    let scope = scope_of c.args.walk.now in
+    let variable = entity scope c.args.target.now.name in
+    let plain = defines-plain c.args.walk.now.standing c.args.target.now.name c.requires.spared c.requires.walk.named.unit in
+    handed c.from_residual.result _ c.from_residual.ensures.1
+    (stays-as (λ call. assignment-plain scope call c.args.line (target_of c.args.target.now) (tree c.args.right.now) variable plain)
+    (stays-bad {A = Unit {0}} {tell = goes_on} (λ call given. assigned scope call c.args.line variable (option_map (map tree) c.args.target.now.subscripts) given) c.in_err-given.ensures))
 
-pub returns-in-None : goal.returns-in-None
-returns-in-None c =
-    let told = to_z-of_z w64 c.args.given (search rules) in
-    let named = ap (entity (scope_of c.args.walk.now)) (sym c.as_bytes.ensures) ∙ sym c.find-found.ensures in
-    walks-as
-    (λ call.
-    ap (λ s. assigned (scope_of c.args.walk.now) call c.args.line (entity (scope_of c.args.walk.now) c.args.target.now.name) (option_map (map tree) s) c.args.given) c.in-None.is
-    ∙ ap (λ e. assigned_whole c.args.line e c.args.given) named ∙ ap (assigned_whole c.args.line (entity_of c.find-found.result)) (sym told))
-    (c.assign_whole.ensures (own_of c.args.walk.now))
-
-pub returns-in-len1-up : goal.returns-in-len1-up
-returns-in-len1-up c =
-    let told = to_z-of_z w64 c.args.given (search rules) in
-    let named = ap (entity (scope_of c.args.walk.now)) (sym c.as_bytes.ensures) ∙ sym c.find-found.ensures in
-    let parts = target-item (scope_of c.args.walk.now) c.args.target.now.name c.args.target.now.subscripts _ _ c.subscript-item.result c.in-Some.is c.as_slice.ensures c.subscript-item.is c.requires.small in
-    walks-as
-    (λ call.
-    ap (λ s. assigned (scope_of c.args.walk.now) call c.args.line (entity (scope_of c.args.walk.now) c.args.target.now.name) s c.args.given) parts.0
-    ∙ ap (λ e. assigned (scope_of c.args.walk.now) call c.args.line e (Some (tree c.subscript-item.result ∷ [])) c.args.given) named
-    ∙ ap (assigned (scope_of c.args.walk.now) call c.args.line (entity_of c.find-found.result) (Some (tree c.subscript-item.result ∷ []))) (sym told))
-    c.assign_element.ensures
+pub returns : goal.returns
+returns c =
+    let scope = scope_of c.args.walk.now in
+    let variable = entity scope c.args.target.now.name in
+    let told = to_z-of_z w64 c.in_ok-given.given (search rules) in
+    let plain = defines-plain c.args.walk.now.standing c.args.target.now.name c.requires.spared c.requires.walk.named.unit in
+    stays-as (λ call. assignment-plain scope call c.args.line (target_of c.args.target.now) (tree c.args.right.now) variable plain)
+    (stays-then (λ call given. assigned scope call c.args.line variable (option_map (map tree) c.args.target.now.subscripts) given) c.in_ok-given.ensures
+    (stays-as (λ call. ap (assigned scope call c.args.line variable (option_map (map tree) c.args.target.now.subscripts)) (sym told)) c.assign_to.ensures))

@@ -2,7 +2,7 @@ use Rattle.std.proofs.Common.{rules, ◌≡◌, ◌∙◌, sym, subst, slice_ind
 use Rattle.dc_int.specs.declared.fault.Why.{Why}
 use Rattle.dc_code.specs.Loops.{alone}
 use Rattle.dc_meaning.specs.Judging.{combination, IsOne}
-use Rattle.dc_meaning.specs.MarkViews.{marks_of}
+use Rattle.dc_plain.specs.MarkViews.{marks_of}
 use Rattle.dc_meaning.proofs.Judging.{value-at, left-bad, left-good}
 use Rattle.dc_meaning.proofs.judge.mark_alone.Goals as goal
 

@@ -1,7 +1,7 @@
 use Rattle.std.proofs.Common.{◌≡◌, drop}
 use Rattle.dc_meaning.specs.Judging.{bad_of, runs_of}
-use Rattle.dc_meaning.specs.Marks.{marked_runs}
-use Rattle.dc_meaning.specs.MarkViews.{marks_of}
+use Rattle.dc_plain.specs.Marks.{marked_runs}
+use Rattle.dc_plain.specs.MarkViews.{marks_of}
 use Rattle.dc_meaning.proofs.judge.mark_alone.Given as goal
 
 abbrev pub ghost-mark_one : goal.ghost-mark_one
@@ -12,4 +12,4 @@ invariant-loop-value g l =
     (l.iteration ≡ l.value-index)
     × (marked_runs l.iteration (runs_of g.parts l.opening.store (drop l.value-index l.active)) (marks_of l.rows.items) ≡ marked_runs 0 (runs_of g.parts l.opening.store l.active) (marks_of l.fn.rows.items))
     × (bad_of g.parts l.opening.store (drop l.value-index l.active) ≡ bad_of g.parts l.opening.store l.active)
-    × (l.cells.store ≡ l.opening.store)
+    × (l.ledger.store ≡ l.opening.store)

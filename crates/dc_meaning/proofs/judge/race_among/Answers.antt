@@ -2,8 +2,8 @@ use Rattle.std.proofs.Common.{◌≡◌, ◌∙◌, sym, ap, map, subst, Option,
 use Rattle.std.specs.Prelude.{option_map}
 use Rattle.dc_code.specs.Verdicts.{Verdict}
 use Rattle.dc_meaning.specs.Judging.{combination, runs_of, told_of}
-use Rattle.dc_meaning.specs.Marks.{named_from}
-use Rattle.dc_meaning.specs.MarkViews.{named_of}
+use Rattle.dc_plain.specs.Marks.{named_from}
+use Rattle.dc_plain.specs.MarkViews.{named_of}
 use Rattle.dc_meaning.proofs.Racing.{among-none, among-some}
 use Rattle.dc_meaning.proofs.judge.race_among.Goals as goal
 

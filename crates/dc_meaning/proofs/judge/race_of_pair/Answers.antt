@@ -6,7 +6,7 @@ use Rattle.dc_code.specs.Loops.{Loop, order}
 use Rattle.dc_code.specs.Verdicts.{race, race_in}
 use Rattle.dc_meaning.specs.Judging.{combination}
 use Rattle.dc_meaning.specs.Pairing.{between_plain}
-use Rattle.dc_meaning.specs.Plainly.{plain}
+use Rattle.dc_plain.specs.Plainly.{plain}
 use Rattle.dc_meaning.proofs.Racing.{both-there}
 use Rattle.dc_meaning.proofs.judge.race_of_pair.Goals as goal
 

@@ -1,4 +1,4 @@
 use Rattle.dc_meaning.proofs.visits.visit.Given as goal
 
-abbrev pub ghost-judge : goal.ghost-judge
-ghost-judge g a = g.parts
+abbrev pub ghost-visit_index : goal.ghost-visit_index
+ghost-visit_index g a = g.parts

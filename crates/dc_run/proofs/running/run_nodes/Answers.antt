@@ -2,7 +2,7 @@ use Rattle.std.proofs.Common.{◌≤◌, ◌+◌, ◌∙◌, drop, map, sym, ap,
 use Rattle.std.proofs.lemmas.Bool.{and_parts}
 use Rattle.dc_tree.specs.Blocks.{item, items_from}
 use Rattle.dc_tree.specs.Entities.{main_scope}
-use Rattle.dc_tree.specs.SmallPrograms.{is_small_item, are_small_items}
+use Rattle.dc_tree.specs.BuiltPrograms.{is_built_item, are_built_items}
 use Rattle.dc_meaning.specs.Alone.{nth_loop}
 use Rattle.dc_meaning.specs.Execution.{exec}
 use Rattle.dc_run.specs.Running.{Steps, looping_in}
@@ -16,14 +16,17 @@ step-requires g c =
     let at = c.loop-node.node-index in
     let rest = items_from (map item (drop (at + 1) c.args.nodes.now)) in
     let next = next-is c.args.nodes.now at c.node-item.result c.loop-node-test.true c.node-item.is in
-    let both = and_parts (is_small_item scope (item c.node-item.result)) (are_small_items scope rest) (ap (are_small_items scope) (sym next) ∙ i.small) in (
+    let both = and_parts (is_built_item scope (item c.node-item.result)) (are_built_items scope rest) (ap (are_built_items scope) (sym next) ∙ i.built) in (
       c.requires.0,
       (
-        both.0,
+        c.requires.1.0,
         (
-          visitable-at g.forms c.args.symbols.now (items_from (map item c.args.nodes.now)) rest (item c.node-item.result) c.loop-node.standing.loops c.requires.1.1.0
-              (λ n. i.numbers n ∙ ap (nth_loop n) next),
-          (i.usual, search (rules, arith)),
+          both.0,
+          (
+            visitable-at g.forms c.args.symbols.now (items_from (map item c.args.nodes.now)) rest (item c.node-item.result) c.loop-node.standing.loops c.requires.1.1.1.0
+                (λ n. i.numbers n ∙ ap (nth_loop n) next),
+            (i.usual, search (rules, arith)),
+          ),
         ),
       ),
     )
@@ -51,13 +54,13 @@ loop-node-preserved g c =
     let all = items_from (map item c.args.nodes.now) in
     let rest = items_from (map item (drop (at + 1) c.args.nodes.now)) in
     let next = next-is c.args.nodes.now at c.node-item.result c.loop-node-test.true c.node-item.is in
-    let both = and_parts (is_small_item scope (item c.node-item.result)) (are_small_items scope rest) (ap (are_small_items scope) (sym next) ∙ i.small) in
+    let both = and_parts (is_built_item scope (item c.node-item.result)) (are_built_items scope rest) (ap (are_built_items scope) (sym next) ∙ i.built) in
     let loops = c.in_ok-ending.ensures.loops in
     let one = few-loops scope (item c.node-item.result) both.0 in
     let few : c.loop-node.standing.loops ≤ at = i.few in
     let steps = subst (Steps (looping_in g.forms) c.args.symbols.now c.loop-node.standing c.step.new.standing (λ call. exec scope call c.loop-node.standing.loops (item c.node-item.result))) c.in_default.is c.in_ok-ending.ensures.steps in
     record {
-      small = both.1;
+      built = both.1;
       usual = c.in_ok-ending.ensures.usual;
       few = omega (arith, loops, one, few);
       numbers = numbers-on scope all rest (item c.node-item.result) c.loop-node.standing.loops c.step.new.standing.loops both.0 loops (λ n. i.numbers n ∙ ap (nth_loop n) next);

@@ -1,7 +1,7 @@
 use Rattle.std.proofs.Common.{◌≡◌, ◌≤◌, ◌+◌, ℕ, List, IsTrue, drop, map}
 use Rattle.dc_tree.specs.Blocks.{item, items_from}
 use Rattle.dc_tree.specs.Entities.{main_scope}
-use Rattle.dc_tree.specs.SmallPrograms.{are_small_items}
+use Rattle.dc_tree.specs.BuiltPrograms.{are_built_items}
 use Rattle.dc_meaning.specs.Alone.{nth_loop}
 use Rattle.dc_meaning.specs.Values.{Callee}
 use Rattle.dc_run.specs.Playing.{played}
@@ -14,7 +14,7 @@ ghost-step g a = g.forms
 abbrev pub invariant-loop-node : goal.invariant-loop-node
 invariant-loop-node g l =
     record {
-      small : IsTrue (are_small_items (main_scope l.symbols) (items_from (map item (drop l.node-index l.nodes))));
+      built : IsTrue (are_built_items (main_scope l.symbols) (items_from (map item (drop l.node-index l.nodes))));
       usual : IsUsual l.symbols l.standing;
       few : l.standing.loops ≤ l.node-index;
       numbers : (n : ℕ) → nth_loop (l.standing.loops + n) (items_from (map item l.nodes)) ≡ nth_loop n (items_from (map item (drop l.node-index l.nodes)));

@@ -1,11 +1,11 @@
 use Rattle.std.proofs.Common.{refl, ◌∙◌}
 use Rattle.dc_tree.specs.Blocks.{source_of}
-use Rattle.dc_tree.specs.SmallPrograms.{is_small_program}
+use Rattle.dc_tree.specs.BuiltPrograms.{is_built}
 use Rattle.judge_rows.proofs.plain_judge.iteration.Goals as goal
 
 pub alone-requires : goal.alone-requires
 alone-requires c =
     record {
-      form = (λ i. is_small_program (c.symbols-symbols.ensures.value i) (source_of (c.program-program.ensures.value i))) ∙ c.symbols-symbols.ensures.small;
+      form = (λ i. is_built (c.symbols-symbols.ensures.value i) (source_of (c.program-program.ensures.value i))) ∙ c.symbols-symbols.ensures.built;
       one = refl;
     }

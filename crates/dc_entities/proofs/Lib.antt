@@ -1,0 +1,4 @@
+pub mod Examples
+pub mod Naming
+pub mod Places
+pub mod Spans

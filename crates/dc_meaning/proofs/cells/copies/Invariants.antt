@@ -1,6 +1,0 @@
-use Rattle.std.proofs.Common.{◌≡◌, ◌++◌, drop, map}
-use Rattle.dc_meaning.specs.Views.{variable_of}
-use Rattle.dc_meaning.proofs.cells.copies.Given as goal
-
-abbrev pub invariant-loop-variable : goal.invariant-loop-variable
-invariant-loop-variable l = map variable_of l.made.items ++ map variable_of (drop l.variable-index l.variables) ≡ map variable_of l.variables

@@ -1,7 +1,0 @@
-use Rattle.std.proofs.Common.{◌≡◌, ◌++◌, drop, map}
-use Rattle.dc_int.specs.Entries.{accesses_of}
-use Rattle.dc_meaning.specs.Views.{entry_of}
-use Rattle.dc_meaning.proofs.listing.accesses.Given as goal
-
-abbrev pub invariant-loop-note : goal.invariant-loop-note
-invariant-loop-note l = l.accesses ++ accesses_of (map entry_of (drop l.note-index l.notes)) ≡ accesses_of (map entry_of l.notes)

@@ -1,7 +1,0 @@
-use Rattle.std.proofs.Common.{◌≡◌, drop, map, None}
-use Rattle.dc_int.specs.Entries.{state_after}
-use Rattle.dc_meaning.specs.Views.{entry_of}
-use Rattle.dc_meaning.proofs.listing.last_state.Given as goal
-
-abbrev pub invariant-loop-note : goal.invariant-loop-note
-invariant-loop-note l = state_after l.element (map entry_of (drop l.note-index l.notes)) l.state ≡ state_after l.element (map entry_of l.notes) None

@@ -1,7 +1,0 @@
-use Rattle.std.proofs.Common.{◌≡◌, ◌++◌, drop, map}
-use Rattle.dc_int.specs.Entries.{last_state}
-use Rattle.dc_meaning.specs.Views.{entry_of}
-use Rattle.dc_meaning.proofs.listing.last_states.Given as goal
-
-abbrev pub invariant-loop-element : goal.invariant-loop-element
-invariant-loop-element l = l.touches ++ map (last_state (map entry_of l.notes)) (drop l.element-index l.elements) ≡ map (last_state (map entry_of l.notes)) l.elements

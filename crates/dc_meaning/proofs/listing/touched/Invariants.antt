@@ -1,8 +1,0 @@
-use Rattle.std.proofs.Common.{◌≡◌, ◌++◌, drop, map}
-use Rattle.dc_int.specs.Entries.{touched_of}
-use Rattle.dc_meaning.specs.Views.{entry_of}
-use Rattle.dc_meaning.proofs.Touching.{fresh}
-use Rattle.dc_meaning.proofs.listing.touched.Given as goal
-
-abbrev pub invariant-loop-note : goal.invariant-loop-note
-invariant-loop-note l = l.elements ++ fresh l.elements (touched_of (map entry_of (drop l.note-index l.notes))) ≡ touched_of (map entry_of l.notes)

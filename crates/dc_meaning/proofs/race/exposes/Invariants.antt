@@ -1,7 +1,0 @@
-use Rattle.std.proofs.Common.{◌≡◌, drop}
-use Rattle.dc_int.specs.Entries.{exposes}
-use Rattle.dc_meaning.specs.Plainly.{entries_of}
-use Rattle.dc_meaning.proofs.race.exposes.Given as goal
-
-abbrev pub invariant-loop-note : goal.invariant-loop-note
-invariant-loop-note l = exposes l.element (entries_of (drop l.note-index l.notes)) ≡ exposes l.element (entries_of l.notes)

@@ -1,0 +1,12 @@
+pub mod Caps
+pub mod Changes
+pub mod Clashing
+pub mod FirstStores
+pub mod Forgetting
+pub mod Marking
+pub mod Sames
+pub mod Scanning
+pub mod Sizes
+pub mod TakingBack
+pub mod Touching
+pub mod Variables

@@ -1,0 +1,6 @@
+use Rattle.std.proofs.Common.{◌≡◌, ◌++◌, drop, map}
+use Rattle.dc_plain.specs.Views.{variable_of}
+use Rattle.dc_plain.proofs.ledger.copies.Given as goal
+
+abbrev pub invariant-loop-variable : goal.invariant-loop-variable
+invariant-loop-variable l = map variable_of l.made.items ++ map variable_of (drop l.variable-index l.variables) ≡ map variable_of l.variables
