@@ -1,5 +1,5 @@
 -- How an iteration or a loop ends badly, and what a computation pauses for. This project's own.
-use Rattle.std.specs.Prelude.{ℕ, List, [], ◌∷◌, Option, ℤ}
+use Rattle.std.specs.Prelude.{ℕ, Bool, List, [], ◌∷◌, Option, ℤ}
 use Rattle.dc_int.specs.declared.access.Action.{Action}
 use Rattle.dc_int.specs.declared.access.ElementId.{ElementId}
 use Rattle.dc_int.specs.declared.fault.Why.{Why}
@@ -45,9 +45,9 @@ inside at (raced x first second path) = raced x first second (at ∷ path)
 abbrev pub Slots : Type 0
 Slots = List (List (Option ℤ))
 
--- A piece of an output line.
+-- A piece of an output line: a value, of a LOGICAL or else a number, or a text.
 pub data Piece : Type 0 where
-  value : Sort → ℤ → Piece
+  value : Bool → ℤ → Piece
   text : List ℕ → Piece
 
 -- What a computation pauses for: to write a line, to take one value of a sort, to take the values of

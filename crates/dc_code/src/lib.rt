@@ -2,10 +2,16 @@
 //! what a tree means, and of a run of code.
 #![tactic(auto)]
 
+mod code;
+mod instr;
 mod law;
 mod loop_law;
+mod machine_law;
+mod plan;
 mod verdict;
 
+pub use code::Code;
+pub use instr::{Folding, Instr, Relation, What};
 pub use law::{
     a_run_is_its_entries, agreeing_stores_run_alike, first_this_then_that, named_pair_breaks,
     runs_differ_first_at_a_read, untouched_elements_stay,
@@ -16,4 +22,6 @@ pub use loop_law::{
     a_visit_leaves_a_store_that_fits, plain_blocks_are_framed,
     what_is_said_of_a_loop_holds_in_every_order,
 };
+pub use machine_law::the_machine_carries_out_one_instruction;
+pub use plan::{ConstructCode, DummyPlan, Group, Passing, Plan};
 pub use verdict::{Party, Race, Verdict};

@@ -1,0 +1,73 @@
+-- A code: its instructions, and what these speak of. This project's own.
+use Rattle.std.specs.Prelude.{ℕ, nat_eq, List, [], ◌∷◌, ◌++◌, map, flat_map, zip, find, replicate, slice_get, Option, Some, None, option_map, ℤ}
+use Rattle.std.specs.List.{range_with_len}
+use Rattle.dc_int.specs.declared.access.ElementId.{ElementId}
+use Rattle.dc_int.specs.declared.kind.Kind.{Kind}
+use Rattle.dc_int.specs.declared.variable.Shape.{Shape}
+use Rattle.dc_int.specs.Store.{Bounds, elements_in}
+use Rattle.dc_code.specs.declared.instr.Instr.{Instr}
+use Rattle.dc_code.specs.declared.plan.ConstructCode.{ConstructCode}
+use Rattle.dc_code.specs.declared.plan.Group.{Group}
+use Rattle.dc_code.specs.declared.plan.Plan.{Plan}
+use Rattle.dc_code.specs.Troubles.{Slots}
+
+-- The instructions, the texts of output items, the shapes and bounds of the outside variables, the plans of
+-- frames, where the procedures begin, and the loops. The main program begins at place 0.
+pub record CodeLists : Type 0 where
+  pub instructions : List Instr
+  pub texts : List (List ℕ)
+  pub shapes : List Shape
+  pub bounds : List Bounds
+  pub plans : List Plan
+  pub entries : List ℕ
+  pub constructs : List ConstructCode
+
+-- ---- outside variables
+
+-- How many elements a variable has, and none where there is no such variable.
+abbrev pub elements_of_shape : Option Shape → ℕ
+elements_of_shape None = 0
+elements_of_shape (Some shape) = shape.elements
+
+abbrev pub element : ℕ → ℕ → ElementId
+element variable position = record { variable = variable; position = position }
+
+-- All elements of a variable, in store order.
+abbrev pub elements_of_variable : CodeLists → ℕ → List ElementId
+elements_of_variable code variable = map (element variable) (range_with_len 0 (elements_of_shape (slice_get code.shapes variable)))
+
+-- ---- frames
+
+abbrev pub no_plan : Plan
+no_plan = record { dummies = []; groups = [] }
+
+abbrev pub plan_or_none : Option Plan → Plan
+plan_or_none None = no_plan
+plan_or_none (Some plan) = plan
+
+-- The slots of a group, undefined.
+abbrev pub blank : Group → List (Option ℤ)
+blank group = replicate (elements_in group.bounds) None
+
+-- The slots of a plan, all undefined.
+abbrev pub blank_slots : Plan → Slots
+blank_slots plan = map blank plan.groups
+
+-- ---- parts
+
+-- Where the parts of a loop begin: its header, its mask if it has one, and its body.
+abbrev pub starts_of_loop : ConstructCode → List ℕ
+starts_of_loop construct = construct.header ∷ masked construct.mask
+  where
+    masked : Option ℕ → List ℕ
+    masked None = construct.body ∷ []
+    masked (Some mask) = mask ∷ construct.body ∷ []
+
+-- Where the parts of a code begin, in the order of their plans: the main program, the procedures, and the
+-- parts of the loops.
+abbrev pub starts : CodeLists → List ℕ
+starts code = 0 ∷ (code.entries ++ flat_map starts_of_loop code.constructs)
+
+-- The plan of the part that begins at a place.
+abbrev pub plan_at : CodeLists → ℕ → Plan
+plan_at code place = plan_or_none (option_map (λ part. part.1) (find (λ part. nat_eq part.0 place) (zip (starts code) code.plans)))

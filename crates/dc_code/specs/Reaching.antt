@@ -1,0 +1,168 @@
+-- What instructions do to variables, slots and dummies. After ISO/IEC 1539-1:2023, clauses 9.5.3, 10.2.1 and
+-- 15.5.2; the order of what is taken off is this project's own.
+use Rattle.std.specs.Prelude.{ℕ, zero, suc, Bool, true, false, ◌&&◌, nat_lt, List, [], ◌∷◌, map, length, slice_get, slice_set, Option, Some, None, if◌then◌else◌, ℤ}
+use Rattle.dc_int.specs.declared.access.ElementId.{ElementId}
+use Rattle.dc_int.specs.declared.fault.FaultKind.{FaultKind}
+use Rattle.dc_int.specs.declared.variable.Shape.{Shape}
+use Rattle.dc_int.specs.Kinds.{value_fits}
+use Rattle.dc_int.specs.Store.{Bounds, position_in, changed_at}
+use Rattle.dc_code.specs.declared.plan.Group.{Group}
+use Rattle.dc_code.specs.Codes.{CodeLists, element, elements_of_variable}
+use Rattle.dc_code.specs.Computation.{give, read, define, undefine, ◌>>=◌}
+use Rattle.dc_code.specs.Frames.{Place, outer, in_frame, Passed, by_value, at_place, value, position_of, place_of, UnitFrame, Frame, pushed, with_units, with_slots, with_dummies, level, innermost, innermost_changed, slot_of, slot_put}
+use Rattle.dc_code.specs.Operands.{faulty, stuck, required, value_off, values_off, position_off}
+use Rattle.dc_code.specs.Troubles.{Computing}
+
+-- ---- positions
+
+abbrev pub within_bounds : ℕ → Option ℕ → Computing ℕ
+within_bounds line (Some at) = give at
+within_bounds line None = faulty FaultKind.Subscript line
+
+-- The position of the element with these subscripts.
+abbrev pub positioned : ℕ → Option Bounds → Frame → Computing Frame
+positioned line None frame = stuck line
+positioned line (Some bounds) frame = do
+  (subscripts, left) ← values_off line (length bounds) frame
+  at ← within_bounds line (position_in bounds subscripts)
+  give (pushed (position_of at) left)
+
+abbrev pub group_bounds : Frame → ℕ → Option Bounds
+group_bounds frame group = by (slice_get ((innermost frame).plan).groups group)
+  where
+    by : Option Group → Option Bounds
+    by (Some found) = Some found.bounds
+    by None = None
+
+-- ---- reading and defining
+
+abbrev pub shape_holds : Shape → ℕ → ℤ → Bool
+shape_holds shape at z = nat_lt at shape.elements && value_fits shape.kind shape.logical z
+
+-- There is this element, and it can hold this value.
+abbrev pub can_hold : CodeLists → ElementId → ℤ → Bool
+can_hold code x z = by (slice_get code.shapes x.variable)
+  where
+    by : Option Shape → Bool
+    by (Some shape) = shape_holds shape x.position z
+    by None = false
+
+-- There is this element.
+abbrev pub is_there : CodeLists → ElementId → Bool
+is_there code x = by (slice_get code.shapes x.variable)
+  where
+    by : Option Shape → Bool
+    by (Some shape) = nat_lt x.position shape.elements
+    by None = false
+
+abbrev pub element_read : CodeLists → ℕ → ElementId → Computing ℤ
+element_read code line x = if is_there code x then read x line (required line) else stuck line
+
+-- A reference to a place, which has to be defined.
+abbrev pub place_read : CodeLists → ℕ → Frame → Place → Computing ℤ
+place_read code line frame (outer x) = element_read code line x
+place_read code line frame (in_frame number group at) = required line (slot_of frame.units number group at)
+
+abbrev pub place_defined : CodeLists → ℕ → Place → ℤ → Frame → Computing Frame
+place_defined code line (outer x) z frame = if can_hold code x z then define x z line (give frame) else stuck line
+place_defined code line (in_frame number group at) z frame = give (with_units (slot_put number group at (Some z) frame.units) frame)
+
+abbrev pub place_forgotten : CodeLists → ℕ → Place → Frame → Computing Frame
+place_forgotten code line (outer x) frame = if is_there code x then undefine x line (give frame) else stuck line
+place_forgotten code line (in_frame number group at) frame = give (with_units (slot_put number group at None frame.units) frame)
+
+-- The place at a position that is taken off, of an outside variable or of a group of the innermost unit.
+abbrev pub outer_place : ℕ → ℕ → Frame → Computing (Place × Frame)
+outer_place line variable frame = do
+  (at, left) ← position_off line frame
+  give (outer (element variable at), left)
+
+abbrev pub slot_place : ℕ → ℕ → Frame → Computing (Place × Frame)
+slot_place line group frame = do
+  (at, left) ← position_off line frame
+  give (in_frame (level frame) group at, left)
+
+abbrev pub loaded : CodeLists → ℕ → Computing (Place × Frame) → Computing Frame
+loaded code line found = do
+  (at, left) ← found
+  z ← place_read code line left at
+  give (pushed (value z) left)
+
+abbrev pub stored : CodeLists → ℕ → Computing (Place × Frame) → Computing Frame
+stored code line found = do
+  (at, below) ← found
+  (z, left) ← value_off line below
+  place_defined code line at z left
+
+abbrev pub forgotten : CodeLists → ℕ → Computing (Place × Frame) → Computing Frame
+forgotten code line found = do
+  (at, left) ← found
+  place_forgotten code line at left
+
+abbrev pub place_pushed : Computing (Place × Frame) → Computing Frame
+place_pushed found = do
+  (at, left) ← found
+  give (pushed (place_of at) left)
+
+-- ---- dummies
+
+abbrev pub dummy : Frame → ℕ → Option Passed
+dummy frame number = slice_get (innermost frame).dummies number
+
+abbrev pub dummy_place : ℕ → Frame → Option Passed → Computing (Place × Frame)
+dummy_place line frame (Some (at_place at)) = give (at, frame)
+dummy_place line frame other = stuck line
+
+abbrev pub dummy_loaded : CodeLists → ℕ → Frame → Option Passed → Computing Frame
+dummy_loaded code line frame (Some (by_value z)) = give (pushed (value z) frame)
+dummy_loaded code line frame other = loaded code line (dummy_place line frame other)
+
+abbrev pub dummy_stored : CodeLists → ℕ → ℕ → Frame → Option Passed → Computing Frame
+dummy_stored code line number frame (Some (by_value before)) = do
+  (z, left) ← value_off line frame
+  give (innermost_changed (λ unit. with_dummies (slice_set unit.dummies number (by_value z)) unit) left)
+dummy_stored code line number frame other = stored code line (dummy_place line frame other)
+
+-- ---- whole arrays
+
+-- Each element is defined with the value, in store order.
+abbrev pub all_defined : CodeLists → ℕ → List ElementId → ℤ → Computing Unit
+all_defined code line [] z = give tt
+all_defined code line (x ∷ elements) z = if can_hold code x z then define x z line (all_defined code line elements z) else stuck line
+
+-- The values of elements, each of which has to be defined.
+abbrev pub all_read : CodeLists → ℕ → List ElementId → Computing (List ℤ)
+all_read code line [] = give []
+all_read code line (x ∷ elements) = do
+  z ← element_read code line x
+  others ← all_read code line elements
+  give (z ∷ others)
+
+abbrev pub all_required : ℕ → List (Option ℤ) → Computing (List ℤ)
+all_required line [] = give []
+all_required line (state ∷ states) = do
+  z ← required line state
+  others ← all_required line states
+  give (z ∷ others)
+
+abbrev pub group_slots : Frame → ℕ → List (Option ℤ)
+group_slots frame group = by (slice_get (innermost frame).slots group)
+  where
+    by : Option (List (Option ℤ)) → List (Option ℤ)
+    by (Some cells) = cells
+    by None = []
+
+abbrev pub filled : CodeLists → ℕ → ℕ → Frame → Computing Frame
+filled code line variable frame = do
+  (z, left) ← value_off line frame
+  done ← all_defined code line (elements_of_variable code variable) z
+  give left
+
+-- All slots of a group take the value.
+abbrev pub group_set : ℕ → ℤ → UnitFrame → UnitFrame
+group_set group z unit = with_slots (changed_at (λ cells. map (λ cell. Some z) cells) unit.slots group) unit
+
+abbrev pub slots_filled : ℕ → ℕ → Frame → Computing Frame
+slots_filled line group frame = do
+  (z, left) ← value_off line frame
+  give (innermost_changed (group_set group z) left)
