@@ -1,0 +1,4 @@
+pub mod Changing
+pub mod Declared
+pub mod Finding
+pub mod Undefined
