@@ -3,7 +3,7 @@ use Rattle.std.proofs.Common.{◌≡◌, ◌<◌, ◌≤◌, ℕ, zero, suc, ◌
 use Rattle.std.proofs.lemmas.Bool.{ltb-true}
 use Rattle.std.proofs.lemmas.List.{length-take}
 use Rattle.std.proofs.lemmas.Option.{none-some}
-use Rattle.std.specs.Prelude.{ℤ, pos, Ok, Err, min, take, nat_lt, slice_get, if◌then◌else◌}
+use Rattle.std.specs.Prelude.{ℤ, pos, map, Ok, Err, min, take, nat_lt, slice_get, if◌then◌else◌}
 use Rattle.dc_int.specs.declared.access.ElementId.{ElementId}
 use Rattle.dc_int.specs.declared.kind.Kind.{Kind}
 use Rattle.dc_int.specs.declared.operation.Op.{Op}
@@ -12,7 +12,7 @@ use Rattle.dc_int.specs.declared.variable.Shape.{Shape}
 use Rattle.dc_int.specs.declared.operation.OpFault.{OpFault}
 use Rattle.dc_int.specs.Operations.{Outcome, applied}
 use Rattle.dc_int.specs.Reductions.{truth}
-use Rattle.dc_int.specs.Sorts.{whole, logical}
+use Rattle.dc_int.specs.Sorts.{Sort, whole, logical, sort_with}
 use Rattle.dc_int.specs.Store.{Bounds, changed_at, position_in}
 use Rattle.dc_code.specs.declared.instr.Instr.{Instr}
 use Rattle.dc_code.specs.declared.instr.What.{What}
@@ -24,12 +24,13 @@ use Rattle.dc_code.specs.declared.plan.Plan.{Plan}
 use Rattle.dc_code.specs.Codes.{CodeLists, element, elements_of_variable}
 use Rattle.dc_code.specs.Combinations.{natural}
 use Rattle.dc_code.specs.Computation.{give, fail, read, define, undefine, contribute, ask, pause, sequence, ◌>>=◌}
-use Rattle.dc_code.specs.Frames.{Place, outer, in_frame, Passed, by_value, at_place, Item, value, position_of, place_of, UnitFrame, Frame, pushed, fresh_unit, entered, slot_put, with_units, with_line, level, innermost, innermost_changed, left_unit}
+use Rattle.dc_code.specs.Frames.{Place, outer, in_frame, Passed, by_value, at_place, Item, value, position_of, place_of, UnitFrame, Frame, pushed, fresh_unit, entered, slot_put, with_units, with_line, put, put_each, level, innermost, innermost_changed, left_unit}
 use Rattle.dc_code.specs.Instructions.{Going, act, behind, ahead, called, returned, passed_to, deepened, takes_one, arithmetic, computed, settled, of_one, of_two, merged, spent, folding_pushed, slot_folding_pushed, contributed, rounds_of, counted, result_pushed, value_put, text_put, all_put, forgotten_out, all_forgotten_out, sort_of_variable}
 use Rattle.dc_code.specs.Machine.{fetched, steps, bound, machine}
 use Rattle.dc_code.specs.Operands.{item_off, top_off, value_off, as_value, position_off, as_position, items_off, values_off, required}
 use Rattle.dc_code.specs.Reaching.{place_read, place_defined, place_forgotten, element_read, outer_place, slot_place, loaded, stored, forgotten, positioned, within_bounds, can_hold, is_there, dummy_place, dummy_loaded, dummy_stored, place_pushed, filled, slots_filled, all_read, all_defined, all_required, group_slots, dummy}
 use Rattle.dc_code.specs.Troubles.{Computing, write_line, take_value, take_elements, end_reading, enter_loop, stop}
+use Rattle.dc_lists.specs.Output.{written}
 use Rattle.dc_code.proofs.Sequences.{Gives, gives-then, same-then}
 
 -- ---- a frame with as many units
@@ -215,16 +216,22 @@ counted-kept line frame =
 result-kept : (line : ℕ) (frame : Frame) → Gives (Kept frame) (result_pushed line frame)
 result-kept line frame = behind-any (Kept frame) (required line (innermost frame).returned) _ (λ z. refl)
 
-value_put-kept : (line : ℕ) (is_truth : Bool) (frame : Frame) → Gives (Kept frame) (value_put line is_truth frame)
-value_put-kept line is_truth frame = behind-value (Kept frame) line frame _ (λ z left kept. kept)
+value_put-kept : (line : ℕ) (sort : Sort) (frame : Frame) → Gives (Kept frame) (value_put line sort frame)
+value_put-kept line sort frame = behind-value (Kept frame) line frame _ (λ z left kept. kept)
 
 text_put-kept : (line : ℕ) (text : Option (List ℕ)) (frame : Frame) → Gives (Kept frame) (text_put line text frame)
 text_put-kept line None frame = tt
 text_put-kept line (Some bytes) frame = refl
 
+put_each-kept : (texts : List (List ℕ)) (frame : Frame) → Kept frame (put_each texts frame)
+put_each-kept [] frame = refl
+put_each-kept (text ∷ texts) frame = put_each-kept texts (put text frame)
+
 all_put-kept : (code : CodeLists) (line variable : ℕ) (shape : Option Shape) (frame : Frame) → Gives (Kept frame) (all_put code line variable shape frame)
 all_put-kept code line variable None frame = tt
-all_put-kept code line variable (Some shape) frame = behind-any (Kept frame) (all_read code line (elements_of_variable code variable)) _ (λ zs. refl)
+all_put-kept code line variable (Some shape) frame =
+    behind-any (Kept frame) (all_read code line (elements_of_variable code variable)) (λ zs. give (put_each (map (written (sort_with shape.logical shape.kind)) zs) frame))
+    (λ zs. put_each-kept (map (written (sort_with shape.logical shape.kind)) zs) frame)
 
 forgotten_out-kept : (code : CodeLists) (line : ℕ) (passing : Passing) (given : Passed) (frame : Frame) → Gives (Kept frame) (forgotten_out code line passing given frame)
 forgotten_out-kept code line Passing.Value (by_value z) frame = refl
@@ -416,11 +423,11 @@ act-same code next other line (What.Count kind) at frame turns before same = beh
 act-same code next other line (What.Call p n) at frame turns before same = called-same code next other line _ _ n at frame turns same
 act-same code next other line What.Return at frame turns before same = returned-same code next other line at frame turns same
 act-same code next other line What.LoadResult at frame turns before same = behind-same code next other at frame turns _ before same (result-kept line frame)
-act-same code next other line What.PutNumber at frame turns before same = behind-same code next other at frame turns _ before same (value_put-kept line false frame)
-act-same code next other line What.PutTruth at frame turns before same = behind-same code next other at frame turns _ before same (value_put-kept line true frame)
+act-same code next other line What.PutNumber at frame turns before same = behind-same code next other at frame turns _ before same (value_put-kept line (whole Kind.K8) frame)
+act-same code next other line What.PutTruth at frame turns before same = behind-same code next other at frame turns _ before same (value_put-kept line logical frame)
 act-same code next other line (What.PutChars x) at frame turns before same = behind-same code next other at frame turns _ before same (text_put-kept line _ frame)
 act-same code next other line (What.PutAll v) at frame turns before same = behind-same code next other at frame turns _ before same (all_put-kept code line v _ frame)
-act-same code next other line What.PutEnd at frame turns before same = λ i. pause (write_line line frame.line) (λ told. at-next code next other at frame (with_line [] frame) turns before same refl i)
+act-same code next other line What.PutEnd at frame turns before same = λ i. pause (write_line line (frame.line ++ 10 ∷ [])) (λ told. at-next code next other at frame (with_line [] false frame) turns before same refl i)
 act-same code next other line (What.TakeNumber kind) at frame turns before same = λ i. pause (take_value line (whole kind)) (λ told. at-next code next other at frame (pushed (value told) frame) turns before same refl i)
 act-same code next other line What.TakeTruth at frame turns before same = λ i. pause (take_value line logical) (λ told. at-next code next other at frame (pushed (value told) frame) turns before same refl i)
 act-same code next other line (What.TakeAll v) at frame turns before same = λ i. pause (take_elements line (sort_of_variable code v) (elements_of_variable code v)) (λ told. at-next code next other at frame frame turns before same refl i)

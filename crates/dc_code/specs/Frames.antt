@@ -1,11 +1,12 @@
 -- The frames of program units that are being executed. This project's own, on ISO/IEC 1539-1:2023, clauses
 -- 15.5.2 and 15.6.
-use Rattle.std.specs.Prelude.{ℕ, ◌-◌, List, [], ◌∷◌, ◌++◌, length, take, slice_get, slice_set, Option, Some, None, option_and_then, ℤ}
+use Rattle.std.specs.Prelude.{ℕ, ◌-◌, Bool, true, false, not, List, [], ◌∷◌, ◌++◌, length, take, slice_get, slice_set, Option, Some, None, option_and_then, ℤ}
 use Rattle.dc_int.specs.declared.access.ElementId.{ElementId}
 use Rattle.dc_int.specs.Store.{changed_at, number_in}
 use Rattle.dc_code.specs.declared.plan.Plan.{Plan}
 use Rattle.dc_code.specs.Codes.{blank_slots}
-use Rattle.dc_code.specs.Troubles.{Slots, Piece}
+use Rattle.dc_code.specs.Troubles.{Slots}
+use Rattle.dc_lists.specs.Output.{behind_blank}
 
 -- A place that can be defined: an element of an outside variable, or a slot, by the frame counted from the
 -- outermost, its group and the position in that.
@@ -37,16 +38,17 @@ pub record UnitFrame : Type 0 where
   pub returned : Option ℤ
 
 -- What the machine holds beside the store: its stack, the top first, the units that are being executed, the
--- innermost last, and the values of the output line so far.
+-- innermost last, the bytes of the output line so far, and whether an item stands there.
 pub record Frame : Type 0 where
   pub stack : List Item
   pub units : List UnitFrame
-  pub line : List Piece
+  pub line : List ℕ
+  pub begun : Bool
 
 -- ---- the stack
 
 abbrev pub with_stack : List Item → Frame → Frame
-with_stack stack frame = record { stack = stack; units = frame.units; line = frame.line }
+with_stack stack frame = record { stack = stack; units = frame.units; line = frame.line; begun = frame.begun }
 
 abbrev pub pushed : Item → Frame → Frame
 pushed item frame = with_stack (item ∷ frame.stack) frame
@@ -54,7 +56,7 @@ pushed item frame = with_stack (item ∷ frame.stack) frame
 -- ---- the units
 
 abbrev pub with_units : List UnitFrame → Frame → Frame
-with_units units frame = record { stack = frame.stack; units = units; line = frame.line }
+with_units units frame = record { stack = frame.stack; units = units; line = frame.line; begun = frame.begun }
 
 -- A unit at its start: its slots are undefined.
 abbrev pub fresh_unit : Plan → List Passed → ℕ → UnitFrame
@@ -110,5 +112,13 @@ slot_put number group position state units = changed_at in_unit units number
 
 -- ---- the output line
 
-abbrev pub with_line : List Piece → Frame → Frame
-with_line pieces frame = record { stack = frame.stack; units = frame.units; line = pieces }
+abbrev pub with_line : List ℕ → Bool → Frame → Frame
+with_line bytes begun frame = record { stack = frame.stack; units = frame.units; line = bytes; begun = begun }
+
+-- The text of an item is added, behind a blank unless it is the first.
+abbrev pub put : List ℕ → Frame → Frame
+put text frame = with_line (frame.line ++ behind_blank (not frame.begun) text) true frame
+
+abbrev pub put_each : List (List ℕ) → Frame → Frame
+put_each [] frame = frame
+put_each (text ∷ texts) frame = put_each texts (put text frame)

@@ -24,11 +24,11 @@ use Rattle.dc_code.specs.Closing.{combined_with}
 use Rattle.dc_code.specs.Codes.{CodeLists, element, elements_of_variable, plan_or_none}
 use Rattle.dc_code.specs.Combinations.{Span, natural, has_zero_step, value_count}
 use Rattle.dc_code.specs.Computation.{give, fail, contribute, pause, ◌>>=◌}
-use Rattle.dc_code.specs.Frames.{Place, Passed, by_value, at_place, Item, value, place_of, Frame, pushed, with_line, fresh_unit, innermost, entered, left_unit}
+use Rattle.dc_code.specs.Frames.{Place, Passed, by_value, at_place, Item, value, place_of, Frame, pushed, with_line, put, put_each, fresh_unit, innermost, entered, left_unit}
 use Rattle.dc_code.specs.Operands.{faulty, stuck, required, item_off, value_off, position_off, items_off}
 use Rattle.dc_code.specs.Reaching.{positioned, group_bounds, can_hold, outer_place, slot_place, loaded, stored, forgotten, place_forgotten, place_pushed, dummy, dummy_place, dummy_loaded, dummy_stored, filled, slots_filled, all_read, all_required, group_slots}
-use Rattle.dc_code.specs.Troubles.{Computing, write_line, take_value, take_elements, end_reading, enter_loop, stop, Piece}
-use Rattle.dc_code.specs.Troubles as troubles
+use Rattle.dc_code.specs.Troubles.{Computing, write_line, take_value, take_elements, end_reading, enter_loop, stop}
+use Rattle.dc_lists.specs.Output.{written}
 
 -- ---- values of values
 
@@ -196,22 +196,20 @@ result_pushed line frame = do
 
 -- ---- output
 
-abbrev pub put : List Piece → Frame → Frame
-put pieces frame = with_line (frame.line ++ pieces) frame
-
-abbrev pub value_put : ℕ → Bool → Frame → Computing Frame
-value_put line is_truth frame = do
+-- A number is written without regard to its kind.
+abbrev pub value_put : ℕ → Sort → Frame → Computing Frame
+value_put line sort frame = do
   (z, left) ← value_off line frame
-  give (put (troubles.value is_truth z ∷ []) left)
+  give (put (written sort z) left)
 
 abbrev pub text_put : ℕ → Option (List ℕ) → Frame → Computing Frame
-text_put line (Some bytes) frame = give (put (troubles.text bytes ∷ []) frame)
+text_put line (Some bytes) frame = give (put bytes frame)
 text_put line None frame = stuck line
 
 abbrev pub all_put : CodeLists → ℕ → ℕ → Option Shape → Frame → Computing Frame
 all_put code line variable (Some shape) frame = do
   zs ← all_read code line (elements_of_variable code variable)
-  give (put (map (troubles.value shape.logical) zs) frame)
+  give (put_each (map (written (sort_with shape.logical shape.kind)) zs) frame)
 all_put code line variable None frame = stuck line
 
 -- ---- input
@@ -275,11 +273,11 @@ act code go line (What.Count kind) at frame turns = behind go at turns (counted 
 act code go line (What.Call p n) at frame turns = called code go line (slice_get code.entries (p - 1)) (plan_or_none (slice_get code.plans p)) n at frame turns
 act code go line What.Return at frame turns = returned go line frame turns
 act code go line What.LoadResult at frame turns = behind go at turns (result_pushed line frame)
-act code go line What.PutNumber at frame turns = behind go at turns (value_put line false frame)
-act code go line What.PutTruth at frame turns = behind go at turns (value_put line true frame)
+act code go line What.PutNumber at frame turns = behind go at turns (value_put line (whole Kind.K8) frame)
+act code go line What.PutTruth at frame turns = behind go at turns (value_put line logical frame)
 act code go line (What.PutChars x) at frame turns = behind go at turns (text_put line (slice_get code.texts x) frame)
 act code go line (What.PutAll v) at frame turns = behind go at turns (all_put code line v (slice_get code.shapes v) frame)
-act code go line What.PutEnd at frame turns = pause (write_line line frame.line) (λ told. go (suc at) (with_line [] frame) turns)
+act code go line What.PutEnd at frame turns = pause (write_line line (frame.line ++ 10 ∷ [])) (λ told. go (suc at) (with_line [] false frame) turns)
 act code go line (What.TakeNumber kind) at frame turns =
     pause (take_value line (whole kind)) (λ told. go (suc at) (pushed (value told) frame) turns)
 act code go line What.TakeTruth at frame turns = pause (take_value line logical) (λ told. go (suc at) (pushed (value told) frame) turns)

@@ -1,5 +1,5 @@
 -- The machine: a run of a code from a place, as a computation. This project's own.
-use Rattle.std.specs.Prelude.{ℕ, zero, suc, ◌+◌, ◌-◌, ◌*◌, List, [], ◌∷◌, length, slice_get, Option, Some, None}
+use Rattle.std.specs.Prelude.{ℕ, zero, suc, ◌+◌, ◌-◌, ◌*◌, false, List, [], ◌∷◌, length, slice_get, Option, Some, None}
 use Rattle.dc_code.specs.declared.instr.Instr.{Instr}
 use Rattle.dc_code.specs.Codes.{CodeLists, plan_at}
 use Rattle.dc_code.specs.Computation.{Computation}
@@ -30,4 +30,4 @@ machine code at frame turns = steps code (suc (bound code at frame turns)) at fr
 
 -- A frame at the start of the part that begins at a place.
 abbrev pub new_frame : CodeLists → ℕ → Frame
-new_frame code entry = record { stack = []; units = fresh_unit (plan_at code entry) [] 0 ∷ []; line = [] }
+new_frame code entry = record { stack = []; units = fresh_unit (plan_at code entry) [] 0 ∷ []; line = []; begun = false }

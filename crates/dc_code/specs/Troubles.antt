@@ -1,5 +1,5 @@
 -- How an iteration or a loop ends badly, and what a computation pauses for. This project's own.
-use Rattle.std.specs.Prelude.{ℕ, Bool, List, [], ◌∷◌, Option, ℤ}
+use Rattle.std.specs.Prelude.{ℕ, List, [], ◌∷◌, Option, ℤ}
 use Rattle.dc_int.specs.declared.access.Action.{Action}
 use Rattle.dc_int.specs.declared.access.ElementId.{ElementId}
 use Rattle.dc_int.specs.declared.fault.Why.{Why}
@@ -45,16 +45,11 @@ inside at (raced x first second path) = raced x first second (at ∷ path)
 abbrev pub Slots : Type 0
 Slots = List (List (Option ℤ))
 
--- A piece of an output line: a value, of a LOGICAL or else a number, or a text.
-pub data Piece : Type 0 where
-  value : Bool → ℤ → Piece
-  text : List ℕ → Piece
-
--- What a computation pauses for: to write a line, to take one value of a sort, to take the values of
+-- What a computation pauses for: to write the bytes of a line, to take one value of a sort, to take the values of
 -- these elements, to end the reading of so many items, to run a loop with so many turns left inside these
 -- entities, or to stop. What it is told is the value that was taken, or the turns that the loop left.
 pub data Event : Type 0 where
-  write_line : ℕ → List Piece → Event
+  write_line : ℕ → List ℕ → Event
   take_value : ℕ → Sort → Event
   take_elements : ℕ → Sort → List ElementId → Event
   end_reading : ℕ → ℕ → Event

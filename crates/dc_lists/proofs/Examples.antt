@@ -1,12 +1,12 @@
 -- Lines that are written, and what is taken from lines.
-use Rattle.std.proofs.Common.{◌≡◌, ℕ, List, [], ◌∷◌, ◌++◌, refl, codes}
+use Rattle.std.proofs.Common.{◌≡◌, ℕ, true, false, List, [], ◌∷◌, ◌++◌, refl, codes}
 use Rattle.std.specs.Prelude.{Ok, Err, pos, negsuc}
 use Rattle.std.specs.Fmt.{digits}
 use Rattle.dc_int.specs.declared.fault.FaultKind.{FaultKind}
 use Rattle.dc_int.specs.declared.kind.Kind.{Kind}
 use Rattle.dc_int.specs.Sorts.{Sort, whole, logical}
 use Rattle.dc_lists.specs.Input.{take_number, take_truth, end_reading, whole_read}
-use Rattle.dc_lists.specs.Output.{written, line_of}
+use Rattle.dc_lists.specs.Output.{written, line_of, behind_blank}
 
 -- a text, and a line feed behind it
 abbrev line : List ℕ → List ℕ
@@ -49,6 +49,12 @@ number_and_text = refl
 -- an empty text stands between two blanks
 empty_text : line_of (codes "a" ∷ [] ∷ codes "b" ∷ []) ≡ line (codes "a  b")
 empty_text = refl
+
+first_of_a_line : behind_blank true (codes "42") ≡ codes "42"
+first_of_a_line = refl
+
+behind_another : behind_blank false (codes "42") ≡ codes " 42"
+behind_another = refl
 
 -- ---- taking numbers
 

@@ -31,7 +31,7 @@ digits_are_parts : (text : List ℕ) → AllDigits 10 text → list_all is_part 
 digits_are_parts [] digits = refl
 digits_are_parts (byte ∷ text) digits = λ i. digit_is_part byte (digit_from_value byte digits.0).0 i && digits_are_parts text digits.1 i
 
-unsigned_back : (text : List ℕ) → IsNumeral 10 text → unsigned_in text ≡ Some (digits_value 10 text)
+pub unsigned_back : (text : List ℕ) → IsNumeral 10 text → unsigned_in text ≡ Some (digits_value 10 text)
 unsigned_back [] numeral = absurd (let some : 0 < length {A = ℕ} [] = numeral.0 in omega arith)
 unsigned_back (byte ∷ text) numeral =
     let model = numerals_by_value (λ digits. all_ascii_digits digits ≡ true) tells_all_ascii_digits in

@@ -45,3 +45,7 @@ rest_of_line (text ∷ texts) = 32 ∷ (text ++ rest_of_line texts)
 abbrev pub line_of : List (List ℕ) → List ℕ
 line_of [] = 10 ∷ []
 line_of (text ∷ texts) = text ++ rest_of_line texts
+
+-- What a text adds to a line: a blank stands in front, unless it is the first of the line.
+abbrev pub behind_blank : Bool → List ℕ → List ℕ
+behind_blank first text = if first then text else 32 ∷ text
