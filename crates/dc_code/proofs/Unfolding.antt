@@ -20,15 +20,14 @@ use Rattle.dc_code.specs.declared.instr.Folding.{Folding}
 use Rattle.dc_code.specs.declared.plan.DummyPlan.{DummyPlan}
 use Rattle.dc_code.specs.declared.plan.Group.{Group}
 use Rattle.dc_code.specs.declared.plan.Passing.{Passing}
-use Rattle.dc_code.specs.declared.plan.Plan.{Plan}
-use Rattle.dc_code.specs.Codes.{CodeLists, element, elements_of_variable}
+use Rattle.dc_code.specs.Codes.{CodeLists, element, elements_of_variable, plan_numbered}
 use Rattle.dc_code.specs.Combinations.{natural}
 use Rattle.dc_code.specs.Computation.{give, fail, read, define, undefine, contribute, ask, pause, sequence, ◌>>=◌}
 use Rattle.dc_code.specs.Frames.{Place, outer, in_frame, Passed, by_value, at_place, Item, value, position_of, place_of, UnitFrame, Frame, pushed, fresh_unit, entered, slot_put, with_units, with_line, put, put_each, level, innermost, innermost_changed, left_unit}
 use Rattle.dc_code.specs.Instructions.{Going, act, behind, ahead, called, returned, passed_to, deepened, takes_one, arithmetic, computed, settled, of_one, of_two, merged, spent, folding_pushed, slot_folding_pushed, contributed, rounds_of, counted, result_pushed, value_put, text_put, all_put, forgotten_out, all_forgotten_out, sort_of_variable}
 use Rattle.dc_code.specs.Machine.{fetched, steps, bound, machine}
 use Rattle.dc_code.specs.Operands.{item_off, top_off, value_off, as_value, position_off, as_position, items_off, values_off, required}
-use Rattle.dc_code.specs.Reaching.{place_read, place_defined, place_forgotten, element_read, outer_place, slot_place, loaded, stored, forgotten, positioned, within_bounds, can_hold, is_there, dummy_place, dummy_loaded, dummy_stored, place_pushed, filled, slots_filled, all_read, all_defined, all_required, group_slots, dummy}
+use Rattle.dc_code.specs.Reaching.{place_read, place_defined, place_forgotten, element_read, outer_place, slot_place, loaded, stored, forgotten, positioned, within_bounds, can_hold, is_there, dummy_place, dummy_loaded, dummy_stored, place_pushed, filled, slots_filled, all_read, all_defined, all_required, group_slots, group_planned, group_bounds, dummy}
 use Rattle.dc_code.specs.Troubles.{Computing, write_line, take_value, take_elements, end_reading, enter_loop, stop}
 use Rattle.dc_lists.specs.Output.{written}
 use Rattle.dc_code.proofs.Sequences.{Gives, gives-then, same-then}
@@ -341,31 +340,31 @@ back-same : (code : CodeLists) (next other : Going) (line target at : ℕ) (fram
 back-same code next other line target at frame zero same = refl
 back-same code next other line target at frame (suc turns) same = same target frame turns (with-turn turns (length frame.units) (length code.instructions) at target)
 
-called-same : (code : CodeLists) (next other : Going) (line : ℕ) (entry : Option ℕ) (plan : Plan) (count at : ℕ) (frame : Frame) (turns : ℕ)
+called-same : (code : CodeLists) (next other : Going) (line : ℕ) (entry : Option ℕ) (procedure count at : ℕ) (frame : Frame) (turns : ℕ)
     → SameBelow code next other (bound code at frame turns)
-    → called code next line entry plan count at frame turns ≡ called code other line entry plan count at frame turns
-called-same code next other line None plan count at frame turns same = refl
-called-same code next other line (Some entry) plan count at frame turns same =
+    → called code next line entry procedure count at frame turns ≡ called code other line entry procedure count at frame turns
+called-same code next other line None procedure count at frame turns same = refl
+called-same code next other line (Some entry) procedure count at frame turns same =
     same-then (KeptBeside frame) (items_off line count frame) _ _ (items-kept line count frame)
-    (λ w kept. same-then Any (passed_to line plan.dummies w.0) _ _ (gives-any (passed_to line plan.dummies w.0))
+    (λ w kept. same-then Any (passed_to line (plan_numbered code procedure).dummies w.0) _ _ (gives-any (passed_to line (plan_numbered code procedure).dummies w.0))
     (λ passed any. same-then Any (deepened line w.1) _ _ (gives-any (deepened line w.1))
     (λ allowed also. spending w.1 kept passed turns same)))
   where
     entering-so : (below : Frame) → Kept frame below → (passed : List Passed) → (turns : ℕ) → SameBelow code next other (bound code at frame (suc turns))
         → (cleared : Frame) → Kept below cleared
-        → next entry (entered (fresh_unit plan passed (suc at)) cleared) turns ≡ other entry (entered (fresh_unit plan passed (suc at)) cleared) turns
+        → next entry (entered (fresh_unit code procedure passed (suc at)) cleared) turns ≡ other entry (entered (fresh_unit code procedure passed (suc at)) cleared) turns
     entering-so below kept passed turns same cleared k =
-        same entry (entered (fresh_unit plan passed (suc at)) cleared) turns
+        same entry (entered (fresh_unit code procedure passed (suc at)) cleared) turns
         (subst (λ units. (2 * turns + units) * suc (length code.instructions) + (length code.instructions - entry) < bound code at frame (suc turns))
-        (sym (length-snoc cleared.units (fresh_unit plan passed (suc at)) ∙ ap suc (k ∙ kept)))
+        (sym (length-snoc cleared.units (fresh_unit code procedure passed (suc at)) ∙ ap suc (k ∙ kept)))
         (entering turns (length frame.units) (length code.instructions) at entry))
 
     spending : (below : Frame) → Kept frame below → (passed : List Passed) → (turns : ℕ) → SameBelow code next other (bound code at frame turns)
-        → (spent line turns >>= (λ left. all_forgotten_out code line plan.dummies passed below >>= (λ cleared. next entry (entered (fresh_unit plan passed (suc at)) cleared) left)))
-        ≡ (spent line turns >>= (λ left. all_forgotten_out code line plan.dummies passed below >>= (λ cleared. other entry (entered (fresh_unit plan passed (suc at)) cleared) left)))
+        → (spent line turns >>= (λ left. all_forgotten_out code line (plan_numbered code procedure).dummies passed below >>= (λ cleared. next entry (entered (fresh_unit code procedure passed (suc at)) cleared) left)))
+        ≡ (spent line turns >>= (λ left. all_forgotten_out code line (plan_numbered code procedure).dummies passed below >>= (λ cleared. other entry (entered (fresh_unit code procedure passed (suc at)) cleared) left)))
     spending below kept passed zero same = refl
     spending below kept passed (suc turns) same =
-        same-then (Kept below) (all_forgotten_out code line plan.dummies passed below) _ _ (all_forgotten_out-kept code line plan.dummies passed below)
+        same-then (Kept below) (all_forgotten_out code line (plan_numbered code procedure).dummies passed below) _ _ (all_forgotten_out-kept code line (plan_numbered code procedure).dummies passed below)
         (entering-so below kept passed turns same)
 
 returned-same : (code : CodeLists) (next other : Going) (line at : ℕ) (frame : Frame) (turns : ℕ)

@@ -10,7 +10,7 @@ use Rattle.dc_int.specs.Reductions.{truth}
 use Rattle.dc_code.specs.declared.plan.ConstructCode.{ConstructCode}
 use Rattle.dc_code.specs.declared.plan.Group.{Group}
 use Rattle.dc_code.specs.Closing.{Localities}
-use Rattle.dc_code.specs.Codes.{CodeLists, elements_of_variable, elements_of_shape, plan_at, blank_slots}
+use Rattle.dc_code.specs.Codes.{CodeLists, elements_of_variable, elements_of_shape}
 use Rattle.dc_code.specs.Combinations.{Span}
 use Rattle.dc_code.specs.Computation.{give, sequence}
 use Rattle.dc_code.specs.Frames.{Item, value, UnitFrame, Frame, with_slots, innermost_changed}

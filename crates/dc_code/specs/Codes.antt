@@ -1,5 +1,5 @@
 -- A code: its instructions, and what these speak of. This project's own.
-use Rattle.std.specs.Prelude.{ℕ, nat_eq, List, [], ◌∷◌, ◌++◌, map, flat_map, zip, find, replicate, slice_get, Option, Some, None, option_map, ℤ}
+use Rattle.std.specs.Prelude.{ℕ, suc, nat_eq, List, [], ◌∷◌, ◌++◌, map, flat_map, replicate, slice_get, Option, Some, None, if◌then◌else◌, ℤ}
 use Rattle.std.specs.List.{range_with_len}
 use Rattle.dc_int.specs.declared.access.ElementId.{ElementId}
 use Rattle.dc_int.specs.declared.kind.Kind.{Kind}
@@ -45,6 +45,10 @@ abbrev pub plan_or_none : Option Plan → Plan
 plan_or_none None = no_plan
 plan_or_none (Some plan) = plan
 
+-- The plan of a number: 0 is the main program's, and p that of procedure p.
+abbrev pub plan_numbered : CodeLists → ℕ → Plan
+plan_numbered code number = plan_or_none (slice_get code.plans number)
+
 -- The slots of a group, undefined.
 abbrev pub blank : Group → List (Option ℤ)
 blank group = replicate (elements_in group.bounds) None
@@ -68,6 +72,11 @@ starts_of_loop construct = construct.header ∷ masked construct.mask
 abbrev pub starts : CodeLists → List ℕ
 starts code = 0 ∷ (code.entries ++ flat_map starts_of_loop code.constructs)
 
--- The plan of the part that begins at a place.
-abbrev pub plan_at : CodeLists → ℕ → Plan
-plan_at code place = plan_or_none (option_map (λ part. part.1) (find (λ part. nat_eq part.0 place) (zip (starts code) code.plans)))
+-- How many numbers stand before the first that is the same, or how many there are.
+abbrev pub place_among : List ℕ → ℕ → ℕ
+place_among [] place = 0
+place_among (first ∷ rest) place = if nat_eq first place then 0 else suc (place_among rest place)
+
+-- The number of the plan of the part that begins at a place.
+abbrev pub plan_at : CodeLists → ℕ → ℕ
+plan_at code place = place_among (starts code) place

@@ -3,8 +3,7 @@
 use Rattle.std.specs.Prelude.{ℕ, ◌-◌, Bool, true, false, not, List, [], ◌∷◌, ◌++◌, length, take, slice_get, slice_set, Option, Some, None, option_and_then, ℤ}
 use Rattle.dc_int.specs.declared.access.ElementId.{ElementId}
 use Rattle.dc_int.specs.Store.{changed_at, number_in}
-use Rattle.dc_code.specs.declared.plan.Plan.{Plan}
-use Rattle.dc_code.specs.Codes.{blank_slots}
+use Rattle.dc_code.specs.Codes.{CodeLists, plan_numbered, blank_slots}
 use Rattle.dc_code.specs.Troubles.{Slots}
 use Rattle.dc_lists.specs.Output.{behind_blank}
 
@@ -28,10 +27,10 @@ pub data Item : Type 0 where
   position_of : ℕ → Item
   place_of : Place → Item
 
--- What is kept of a unit while it is executed: what its frame has, its slots and dummies, the place in the
+-- What is kept of a unit while it is executed: the number of its plan, its slots and dummies, the place in the
 -- code to which it returns, and the result of the procedure that it called last.
 pub record UnitFrame : Type 0 where
-  pub plan : Plan
+  pub plan : ℕ
   pub slots : Slots
   pub dummies : List Passed
   pub back : ℕ
@@ -58,9 +57,10 @@ pushed item frame = with_stack (item ∷ frame.stack) frame
 abbrev pub with_units : List UnitFrame → Frame → Frame
 with_units units frame = record { stack = frame.stack; units = units; line = frame.line; begun = frame.begun }
 
--- A unit at its start: its slots are undefined.
-abbrev pub fresh_unit : Plan → List Passed → ℕ → UnitFrame
-fresh_unit plan dummies back = record { plan = plan; slots = blank_slots plan; dummies = dummies; back = back; returned = None }
+-- A unit with this plan at its start: its slots are undefined.
+abbrev pub fresh_unit : CodeLists → ℕ → List Passed → ℕ → UnitFrame
+fresh_unit code plan dummies back =
+    record { plan = plan; slots = blank_slots (plan_numbered code plan); dummies = dummies; back = back; returned = None }
 
 -- The innermost unit, counted from the outermost.
 abbrev pub level : Frame → ℕ
@@ -71,7 +71,7 @@ innermost frame = or_none (slice_get frame.units (level frame))
   where
     or_none : Option UnitFrame → UnitFrame
     or_none (Some unit) = unit
-    or_none None = fresh_unit (record { dummies = []; groups = [] }) [] 0
+    or_none None = record { plan = 0; slots = []; dummies = []; back = 0; returned = None }
 
 abbrev pub entered : UnitFrame → Frame → Frame
 entered unit frame = with_units (frame.units ++ unit ∷ []) frame

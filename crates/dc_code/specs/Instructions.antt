@@ -19,14 +19,13 @@ use Rattle.dc_code.specs.declared.instr.What.{What}
 use Rattle.dc_code.specs.declared.plan.DummyPlan.{DummyPlan}
 use Rattle.dc_code.specs.declared.plan.Group.{Group}
 use Rattle.dc_code.specs.declared.plan.Passing.{Passing}
-use Rattle.dc_code.specs.declared.plan.Plan.{Plan}
 use Rattle.dc_code.specs.Closing.{combined_with}
-use Rattle.dc_code.specs.Codes.{CodeLists, element, elements_of_variable, plan_or_none}
+use Rattle.dc_code.specs.Codes.{CodeLists, element, elements_of_variable, plan_numbered}
 use Rattle.dc_code.specs.Combinations.{Span, natural, has_zero_step, value_count}
 use Rattle.dc_code.specs.Computation.{give, fail, contribute, pause, ◌>>=◌}
 use Rattle.dc_code.specs.Frames.{Place, Passed, by_value, at_place, Item, value, place_of, Frame, pushed, with_line, put, put_each, fresh_unit, innermost, entered, left_unit}
 use Rattle.dc_code.specs.Operands.{faulty, stuck, required, item_off, value_off, position_off, items_off}
-use Rattle.dc_code.specs.Reaching.{positioned, group_bounds, can_hold, outer_place, slot_place, loaded, stored, forgotten, place_forgotten, place_pushed, dummy, dummy_place, dummy_loaded, dummy_stored, filled, slots_filled, all_read, all_required, group_slots}
+use Rattle.dc_code.specs.Reaching.{positioned, group_planned, group_bounds, can_hold, outer_place, slot_place, loaded, stored, forgotten, place_forgotten, place_pushed, dummy, dummy_place, dummy_loaded, dummy_stored, filled, slots_filled, all_read, all_required, group_slots}
 use Rattle.dc_code.specs.Troubles.{Computing, write_line, take_value, take_elements, end_reading, enter_loop, stop}
 use Rattle.dc_lists.specs.Output.{written}
 
@@ -174,15 +173,15 @@ Going = ℕ → Frame → ℕ → Computing (Frame × ℕ)
 
 -- A call: the arguments are taken off, a turn is spent, INTENT(OUT) places become undefined, and the procedure
 -- is entered.
-abbrev pub called : CodeLists → Going → ℕ → Option ℕ → Plan → ℕ → Going
-called code go line None plan count at frame turns = stuck line
-called code go line (Some entry) plan count at frame turns = do
+abbrev pub called : CodeLists → Going → ℕ → Option ℕ → ℕ → ℕ → Going
+called code go line None procedure count at frame turns = stuck line
+called code go line (Some entry) procedure count at frame turns = do
   (items, below) ← items_off line count frame
-  passed ← passed_to line plan.dummies items
+  passed ← passed_to line (plan_numbered code procedure).dummies items
   allowed ← deepened line below
   left ← spent line turns
-  cleared ← all_forgotten_out code line plan.dummies passed below
-  go entry (entered (fresh_unit plan passed (suc at)) cleared) left
+  cleared ← all_forgotten_out code line (plan_numbered code procedure).dummies passed below
+  go entry (entered (fresh_unit code procedure passed (suc at)) cleared) left
 
 -- A unit is left, and the one around it goes on behind the call.
 abbrev pub returned : Going → ℕ → Frame → ℕ → Computing (Frame × ℕ)
@@ -246,7 +245,7 @@ act code go line What.Neqv at frame turns = behind go at turns (of_two line non_
 act code go line What.Not at frame turns = behind go at turns (of_one line (λ a. number_of_truth (not (truth a))) frame)
 act code go line What.Merge at frame turns = behind go at turns (merged line frame)
 act code go line (What.Subscript v) at frame turns = behind go at turns (positioned line (slice_get code.bounds v) frame)
-act code go line (What.SubscriptSlot s) at frame turns = behind go at turns (positioned line (group_bounds frame s) frame)
+act code go line (What.SubscriptSlot s) at frame turns = behind go at turns (positioned line (group_bounds (group_planned code frame s)) frame)
 act code go line (What.Load v) at frame turns = behind go at turns (loaded code line (outer_place line v frame))
 act code go line (What.LoadSlot s) at frame turns = behind go at turns (loaded code line (slot_place line s frame))
 act code go line (What.Store v) at frame turns = behind go at turns (stored code line (outer_place line v frame))
@@ -261,7 +260,7 @@ act code go line (What.StoreDummy d) at frame turns = behind go at turns (dummy_
 act code go line (What.Fill v) at frame turns = behind go at turns (filled code line v frame)
 act code go line (What.FillSlot s) at frame turns = behind go at turns (slots_filled line s frame)
 act code go line (What.Fold f v) at frame turns = behind go at turns (folding_pushed code line f v (slice_get code.shapes v) frame)
-act code go line (What.FoldSlot f s) at frame turns = behind go at turns (slot_folding_pushed line f s (slice_get ((innermost frame).plan).groups s) frame)
+act code go line (What.FoldSlot f s) at frame turns = behind go at turns (slot_folding_pushed line f s (group_planned code frame s) frame)
 act code go line (What.Contribute op v) at frame turns = behind go at turns (contributed code line op v frame)
 act code go line (What.Jump t) at frame turns = ahead go line t at frame turns
 act code go line (What.JumpFalse t) at frame turns = do
@@ -270,7 +269,7 @@ act code go line (What.JumpFalse t) at frame turns = do
 act code go line What.Turn at frame turns = spent line turns >>= (λ left. go (suc at) frame left)
 act code go line (What.Back t) at frame turns = spent line turns >>= (λ left. go t frame left)
 act code go line (What.Count kind) at frame turns = behind go at turns (counted line frame)
-act code go line (What.Call p n) at frame turns = called code go line (slice_get code.entries (p - 1)) (plan_or_none (slice_get code.plans p)) n at frame turns
+act code go line (What.Call p n) at frame turns = called code go line (slice_get code.entries (p - 1)) p n at frame turns
 act code go line What.Return at frame turns = returned go line frame turns
 act code go line What.LoadResult at frame turns = behind go at turns (result_pushed line frame)
 act code go line What.PutNumber at frame turns = behind go at turns (value_put line (whole Kind.K8) frame)

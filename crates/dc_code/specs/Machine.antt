@@ -30,4 +30,4 @@ machine code at frame turns = steps code (suc (bound code at frame turns)) at fr
 
 -- A frame at the start of the part that begins at a place.
 abbrev pub new_frame : CodeLists → ℕ → Frame
-new_frame code entry = record { stack = []; units = fresh_unit (plan_at code entry) [] 0 ∷ []; line = []; begun = false }
+new_frame code entry = record { stack = []; units = fresh_unit code (plan_at code entry) [] 0 ∷ []; line = []; begun = false }

@@ -7,7 +7,7 @@ use Rattle.dc_int.specs.declared.variable.Shape.{Shape}
 use Rattle.dc_int.specs.Kinds.{value_fits}
 use Rattle.dc_int.specs.Store.{Bounds, position_in, changed_at}
 use Rattle.dc_code.specs.declared.plan.Group.{Group}
-use Rattle.dc_code.specs.Codes.{CodeLists, element, elements_of_variable}
+use Rattle.dc_code.specs.Codes.{CodeLists, element, elements_of_variable, plan_numbered}
 use Rattle.dc_code.specs.Computation.{give, read, define, undefine, ◌>>=◌}
 use Rattle.dc_code.specs.Frames.{Place, outer, in_frame, Passed, by_value, at_place, value, position_of, place_of, UnitFrame, Frame, pushed, with_units, with_slots, with_dummies, level, innermost, innermost_changed, slot_of, slot_put}
 use Rattle.dc_code.specs.Operands.{faulty, stuck, required, value_off, values_off, position_off}
@@ -27,12 +27,13 @@ positioned line (Some bounds) frame = do
   at ← within_bounds line (position_in bounds subscripts)
   give (pushed (position_of at) left)
 
-abbrev pub group_bounds : Frame → ℕ → Option Bounds
-group_bounds frame group = by (slice_get ((innermost frame).plan).groups group)
-  where
-    by : Option Group → Option Bounds
-    by (Some found) = Some found.bounds
-    by None = None
+-- A group of the innermost unit, as its plan has it.
+abbrev pub group_planned : CodeLists → Frame → ℕ → Option Group
+group_planned code frame group = slice_get (plan_numbered code (innermost frame).plan).groups group
+
+abbrev pub group_bounds : Option Group → Option Bounds
+group_bounds (Some group) = Some group.bounds
+group_bounds None = None
 
 -- ---- reading and defining
 
