@@ -14,6 +14,9 @@ use Rattle.dc_int.specs.Operations.{Outcome, applied}
 use Rattle.dc_int.specs.Reductions.{truth}
 use Rattle.dc_int.specs.Sorts.{Sort, whole, logical, sort_with}
 use Rattle.dc_int.specs.Store.{Bounds, changed_at, position_in}
+use Rattle.dc_code.specs.declared.frame.Item.{Item}
+use Rattle.dc_code.specs.declared.frame.Passed.{Passed}
+use Rattle.dc_code.specs.declared.frame.Place.{Place}
 use Rattle.dc_code.specs.declared.instr.Instr.{Instr}
 use Rattle.dc_code.specs.declared.instr.What.{What}
 use Rattle.dc_code.specs.declared.instr.Folding.{Folding}
@@ -23,7 +26,7 @@ use Rattle.dc_code.specs.declared.plan.Passing.{Passing}
 use Rattle.dc_code.specs.Codes.{CodeLists, element, elements_of_variable, plan_numbered}
 use Rattle.dc_code.specs.Combinations.{natural}
 use Rattle.dc_code.specs.Computation.{give, fail, read, define, undefine, contribute, ask, pause, sequence, ◌>>=◌}
-use Rattle.dc_code.specs.Frames.{Place, outer, in_frame, Passed, by_value, at_place, Item, value, position_of, place_of, UnitFrame, Frame, pushed, fresh_unit, entered, slot_put, with_units, with_line, put, put_each, level, innermost, innermost_changed, left_unit}
+use Rattle.dc_code.specs.Frames.{UnitFrame, Frame, pushed, fresh_unit, entered, slot_put, with_units, with_line, put, put_each, level, innermost, innermost_changed, left_unit}
 use Rattle.dc_code.specs.Instructions.{Going, act, behind, ahead, called, returned, passed_to, deepened, takes_one, arithmetic, computed, settled, of_one, of_two, merged, spent, folding_pushed, slot_folding_pushed, contributed, rounds_of, counted, result_pushed, value_put, text_put, all_put, forgotten_out, all_forgotten_out, sort_of_variable}
 use Rattle.dc_code.specs.Machine.{fetched, steps, bound, machine}
 use Rattle.dc_code.specs.Operands.{item_off, top_off, value_off, as_value, position_off, as_position, items_off, values_off, required}
@@ -59,14 +62,14 @@ item-kept : (line : ℕ) (frame : Frame) → Gives (KeptBeside frame) (item_off 
 item-kept line frame = top-kept line frame frame.stack
 
 value-as : (line : ℕ) (frame : Frame) (w : Item × Frame) → KeptBeside frame w → Gives (KeptBeside frame) (as_value line w)
-value-as line frame (value z, left) kept = kept
-value-as line frame (position_of at, left) kept = tt
-value-as line frame (place_of at, left) kept = tt
+value-as line frame (Item.Value z, left) kept = kept
+value-as line frame (Item.Position at, left) kept = tt
+value-as line frame (Item.Place at, left) kept = tt
 
 position-as : (line : ℕ) (frame : Frame) (w : Item × Frame) → KeptBeside frame w → Gives (KeptBeside frame) (as_position line w)
-position-as line frame (value z, left) kept = tt
-position-as line frame (position_of at, left) kept = kept
-position-as line frame (place_of at, left) kept = tt
+position-as line frame (Item.Value z, left) kept = tt
+position-as line frame (Item.Position at, left) kept = kept
+position-as line frame (Item.Place at, left) kept = tt
 
 value-kept : (line : ℕ) (frame : Frame) → Gives (KeptBeside frame) (value_off line frame)
 value-kept line frame = gives-then (KeptBeside frame) (KeptBeside frame) (item_off line frame) (as_value line) (item-kept line frame) (value-as line frame)
@@ -114,10 +117,10 @@ behind-any Q c next later = gives-then Any Q c next (gives-any c) (λ a any. lat
 
 computed-kept : (b : Bool) (line : ℕ) (op : Op) (kind : Kind) (frame : Frame) → Gives (Kept frame) (computed b line op kind frame)
 computed-kept true line op kind frame =
-    behind-value (Kept frame) line frame _ (λ a left kept. behind-any (Kept frame) (settled line (applied op kind a (pos 0))) (λ z. give (pushed (value z) left)) (λ z. kept))
+    behind-value (Kept frame) line frame _ (λ a left kept. behind-any (Kept frame) (settled line (applied op kind a (pos 0))) (λ z. give (pushed (Item.Value z) left)) (λ z. kept))
 computed-kept false line op kind frame =
     behind-value (Kept frame) line frame _ (λ b below kept. behind-value (Kept frame) line below _ 
-    (λ a left also. behind-any (Kept frame) (settled line (applied op kind a b)) (λ z. give (pushed (value z) left)) (λ z. also ∙ kept)))
+    (λ a left also. behind-any (Kept frame) (settled line (applied op kind a b)) (λ z. give (pushed (Item.Value z) left)) (λ z. also ∙ kept)))
 
 two-kept : (line : ℕ) (make : ℤ → ℤ → ℤ) (frame : Frame) → Gives (Kept frame) (of_two line make frame)
 two-kept line make frame = behind-value (Kept frame) line frame _ (λ b below kept. behind-value (Kept frame) line below _ (λ a left also. also ∙ kept))
@@ -133,7 +136,7 @@ positioned-kept : (line : ℕ) (bounds : Option Bounds) (frame : Frame) → Give
 positioned-kept line None frame = tt
 positioned-kept line (Some bounds) frame =
     gives-then (KeptBeside frame) (Kept frame) (values_off line (length bounds) frame) _ (values-kept line (length bounds) frame)
-    (λ w kept. behind-any (Kept frame) (within_bounds line (position_in bounds w.0)) (λ at. give (pushed (position_of at) w.1)) (λ at. kept))
+    (λ w kept. behind-any (Kept frame) (within_bounds line (position_in bounds w.0)) (λ at. give (pushed (Item.Position at) w.1)) (λ at. kept))
 
 outer-kept : (line variable : ℕ) (frame : Frame) → Gives (KeptBeside frame) (outer_place line variable frame)
 outer-kept line variable frame = gives-then (KeptBeside frame) (KeptBeside frame) (position_off line frame) _ (position-kept line frame) (λ w kept. kept)
@@ -143,19 +146,19 @@ slot-kept line group frame = gives-then (KeptBeside frame) (KeptBeside frame) (p
 
 dummy-kept : (line : ℕ) (frame : Frame) (passed : Option Passed) → Gives (KeptBeside frame) (dummy_place line frame passed)
 dummy-kept line frame None = tt
-dummy-kept line frame (Some (by_value z)) = tt
-dummy-kept line frame (Some (at_place at)) = refl
+dummy-kept line frame (Some (Passed.ByValue z)) = tt
+dummy-kept line frame (Some (Passed.AtPlace at)) = refl
 
 loaded-kept : (code : CodeLists) (line : ℕ) (frame : Frame) (found : Computing (Place × Frame)) → Gives (KeptBeside frame) found → Gives (Kept frame) (loaded code line found)
 loaded-kept code line frame found kept = gives-then (KeptBeside frame) (Kept frame) found _ kept (λ w also. behind-any (Kept frame) (place_read code line w.1 w.0) _ (λ z. also))
 
 defined-kept : (code : CodeLists) (line : ℕ) (at : Place) (z : ℤ) (frame : Frame) → Gives (Kept frame) (place_defined code line at z frame)
-defined-kept code line (outer x) z frame = if-gives (Kept frame) (can_hold code x z) _ _ refl tt
-defined-kept code line (in_frame number group at) z frame = length-changed _ frame.units number
+defined-kept code line (Place.Outer x) z frame = if-gives (Kept frame) (can_hold code x z) _ _ refl tt
+defined-kept code line (Place.InFrame number group at) z frame = length-changed _ frame.units number
 
 forgotten-kept : (code : CodeLists) (line : ℕ) (at : Place) (frame : Frame) → Gives (Kept frame) (place_forgotten code line at frame)
-forgotten-kept code line (outer x) frame = if-gives (Kept frame) (is_there code x) _ _ refl tt
-forgotten-kept code line (in_frame number group at) frame = length-changed _ frame.units number
+forgotten-kept code line (Place.Outer x) frame = if-gives (Kept frame) (is_there code x) _ _ refl tt
+forgotten-kept code line (Place.InFrame number group at) frame = length-changed _ frame.units number
 
 through-kept : (frame left : Frame) (c : Computing Frame) → Kept frame left → Gives (Kept left) c → Gives (Kept frame) c
 through-kept frame left c kept gives = weaker c gives
@@ -177,16 +180,16 @@ pushed-kept frame found kept = gives-then (KeptBeside frame) (Kept frame) found 
 
 dummy_load-kept : (code : CodeLists) (line : ℕ) (frame : Frame) (passed : Option Passed) → Gives (Kept frame) (dummy_loaded code line frame passed)
 dummy_load-kept code line frame None = tt
-dummy_load-kept code line frame (Some (by_value z)) = refl
-dummy_load-kept code line frame (Some (at_place at)) = loaded-kept code line frame (dummy_place line frame (Some (at_place at))) refl
+dummy_load-kept code line frame (Some (Passed.ByValue z)) = refl
+dummy_load-kept code line frame (Some (Passed.AtPlace at)) = loaded-kept code line frame (dummy_place line frame (Some (Passed.AtPlace at))) refl
 
 innermost-kept : (change : UnitFrame → UnitFrame) (frame : Frame) → Kept frame (innermost_changed change frame)
 innermost-kept change frame = length-changed change frame.units (level frame)
 
 dummy_store-kept : (code : CodeLists) (line number : ℕ) (frame : Frame) (passed : Option Passed) → Gives (Kept frame) (dummy_stored code line number frame passed)
 dummy_store-kept code line number frame None = tt
-dummy_store-kept code line number frame (Some (by_value before)) = behind-value (Kept frame) line frame _ (λ z left kept. innermost-kept _ left ∙ kept)
-dummy_store-kept code line number frame (Some (at_place at)) = stored-kept code line frame (dummy_place line frame (Some (at_place at))) refl
+dummy_store-kept code line number frame (Some (Passed.ByValue before)) = behind-value (Kept frame) line frame _ (λ z left kept. innermost-kept _ left ∙ kept)
+dummy_store-kept code line number frame (Some (Passed.AtPlace at)) = stored-kept code line frame (dummy_place line frame (Some (Passed.AtPlace at))) refl
 
 filled-kept : (code : CodeLists) (line variable : ℕ) (frame : Frame) → Gives (Kept frame) (filled code line variable frame)
 filled-kept code line variable frame = behind-value (Kept frame) line frame _ (λ z left kept. behind-any (Kept frame) (all_defined code line (elements_of_variable code variable) z) _ (λ done. kept))
@@ -210,7 +213,7 @@ contributed-kept code line op variable frame =
 counted-kept : (line : ℕ) (frame : Frame) → Gives (Kept frame) (counted line frame)
 counted-kept line frame =
     behind-value (Kept frame) line frame _ (λ step below kept. behind-value (Kept frame) line below _ (λ last under also. behind-value (Kept frame) line under _
-    (λ first left further. behind-any (Kept frame) (rounds_of line (record { first = first; last = last; step = step })) (λ rounds. give (pushed (value rounds) left)) (λ rounds. further ∙ also ∙ kept))))
+    (λ first left further. behind-any (Kept frame) (rounds_of line (record { first = first; last = last; step = step })) (λ rounds. give (pushed (Item.Value rounds) left)) (λ rounds. further ∙ also ∙ kept))))
 
 result-kept : (line : ℕ) (frame : Frame) → Gives (Kept frame) (result_pushed line frame)
 result-kept line frame = behind-any (Kept frame) (required line (innermost frame).returned) _ (λ z. refl)
@@ -233,12 +236,12 @@ all_put-kept code line variable (Some shape) frame =
     (λ zs. put_each-kept (map (written (sort_with shape.logical shape.kind)) zs) frame)
 
 forgotten_out-kept : (code : CodeLists) (line : ℕ) (passing : Passing) (given : Passed) (frame : Frame) → Gives (Kept frame) (forgotten_out code line passing given frame)
-forgotten_out-kept code line Passing.Value (by_value z) frame = refl
-forgotten_out-kept code line Passing.Value (at_place at) frame = refl
-forgotten_out-kept code line Passing.Place (by_value z) frame = refl
-forgotten_out-kept code line Passing.Place (at_place at) frame = refl
-forgotten_out-kept code line Passing.OutPlace (by_value z) frame = refl
-forgotten_out-kept code line Passing.OutPlace (at_place at) frame = forgotten-kept code line at frame
+forgotten_out-kept code line Passing.Value (Passed.ByValue z) frame = refl
+forgotten_out-kept code line Passing.Value (Passed.AtPlace at) frame = refl
+forgotten_out-kept code line Passing.Place (Passed.ByValue z) frame = refl
+forgotten_out-kept code line Passing.Place (Passed.AtPlace at) frame = refl
+forgotten_out-kept code line Passing.OutPlace (Passed.ByValue z) frame = refl
+forgotten_out-kept code line Passing.OutPlace (Passed.AtPlace at) frame = forgotten-kept code line at frame
 
 all_forgotten_out-kept : (code : CodeLists) (line : ℕ) (dummies : List DummyPlan) (given : List Passed) (frame : Frame) → Gives (Kept frame) (all_forgotten_out code line dummies given frame)
 all_forgotten_out-kept code line [] given frame = refl
@@ -427,8 +430,8 @@ act-same code next other line What.PutTruth at frame turns before same = behind-
 act-same code next other line (What.PutChars x) at frame turns before same = behind-same code next other at frame turns _ before same (text_put-kept line _ frame)
 act-same code next other line (What.PutAll v) at frame turns before same = behind-same code next other at frame turns _ before same (all_put-kept code line v _ frame)
 act-same code next other line What.PutEnd at frame turns before same = λ i. pause (write_line line (frame.line ++ 10 ∷ [])) (λ told. at-next code next other at frame (with_line [] false frame) turns before same refl i)
-act-same code next other line (What.TakeNumber kind) at frame turns before same = λ i. pause (take_value line (whole kind)) (λ told. at-next code next other at frame (pushed (value told) frame) turns before same refl i)
-act-same code next other line What.TakeTruth at frame turns before same = λ i. pause (take_value line logical) (λ told. at-next code next other at frame (pushed (value told) frame) turns before same refl i)
+act-same code next other line (What.TakeNumber kind) at frame turns before same = λ i. pause (take_value line (whole kind)) (λ told. at-next code next other at frame (pushed (Item.Value told) frame) turns before same refl i)
+act-same code next other line What.TakeTruth at frame turns before same = λ i. pause (take_value line logical) (λ told. at-next code next other at frame (pushed (Item.Value told) frame) turns before same refl i)
 act-same code next other line (What.TakeAll v) at frame turns before same = λ i. pause (take_elements line (sort_of_variable code v) (elements_of_variable code v)) (λ told. at-next code next other at frame frame turns before same refl i)
 act-same code next other line (What.TakeEnd n) at frame turns before same = λ i. pause (end_reading line n) (λ told. at-next code next other at frame frame turns before same refl i)
 act-same code next other line (What.Enter c) at frame turns before same =

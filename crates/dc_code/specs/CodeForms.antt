@@ -7,13 +7,16 @@ use Rattle.dc_int.specs.declared.kind.Kind.{Kind}
 use Rattle.dc_int.specs.declared.variable.Locality.{Locality}
 use Rattle.dc_int.specs.declared.variable.Shape.{Shape}
 use Rattle.dc_int.specs.Reductions.{truth}
+use Rattle.dc_code.specs.declared.frame.Item.{Item}
+use Rattle.dc_code.specs.declared.frame.Passed.{Passed}
+use Rattle.dc_code.specs.declared.frame.Place.{Place}
 use Rattle.dc_code.specs.declared.plan.ConstructCode.{ConstructCode}
 use Rattle.dc_code.specs.declared.plan.Group.{Group}
 use Rattle.dc_code.specs.Closing.{Localities}
 use Rattle.dc_code.specs.Codes.{CodeLists, elements_of_variable, elements_of_shape}
 use Rattle.dc_code.specs.Combinations.{Span}
 use Rattle.dc_code.specs.Computation.{give, sequence}
-use Rattle.dc_code.specs.Frames.{Item, value, UnitFrame, Frame, with_slots, innermost_changed}
+use Rattle.dc_code.specs.Frames.{UnitFrame, Frame, with_slots, innermost_changed}
 use Rattle.dc_code.specs.Inner.{Forms}
 use Rattle.dc_code.specs.Loops.{Form, Copies}
 use Rattle.dc_code.specs.Machine.{machine, new_frame}
@@ -23,11 +26,11 @@ use Rattle.dc_code.specs.Troubles.{Computing, Slots}
 
 -- The limits and steps that a header leaves, three values for each index, the step of the last one on top.
 abbrev pub spans_in : List Item → List Span
-spans_in (value first ∷ value last ∷ value step ∷ items) = record { first = first; last = last; step = step } ∷ spans_in items
+spans_in (Item.Value first ∷ Item.Value last ∷ Item.Value step ∷ items) = record { first = first; last = last; step = step } ∷ spans_in items
 spans_in items = []
 
 abbrev pub is_true_on_top : List Item → Bool
-is_true_on_top (value z ∷ items) = truth z
+is_true_on_top (Item.Value z ∷ items) = truth z
 is_true_on_top items = false
 
 -- ---- slots

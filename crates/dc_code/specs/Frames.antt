@@ -1,31 +1,12 @@
 -- The frames of program units that are being executed. This project's own, on ISO/IEC 1539-1:2023, clauses
 -- 15.5.2 and 15.6.
 use Rattle.std.specs.Prelude.{ℕ, ◌-◌, Bool, true, false, not, List, [], ◌∷◌, ◌++◌, length, take, slice_get, slice_set, Option, Some, None, option_and_then, ℤ}
-use Rattle.dc_int.specs.declared.access.ElementId.{ElementId}
 use Rattle.dc_int.specs.Store.{changed_at, number_in}
+use Rattle.dc_code.specs.declared.frame.Item.{Item}
+use Rattle.dc_code.specs.declared.frame.Passed.{Passed}
 use Rattle.dc_code.specs.Codes.{CodeLists, plan_numbered, blank_slots}
 use Rattle.dc_code.specs.Troubles.{Slots}
 use Rattle.dc_lists.specs.Output.{behind_blank}
-
--- A place that can be defined: an element of an outside variable, or a slot, by the frame counted from the
--- outermost, its group and the position in that.
-pub data Place : Type 0 where
-  outer : ElementId → Place
-  in_frame : ℕ → ℕ → ℕ → Place
-
--- What a dummy is associated with. After clause 15.5.2; that an INTENT(IN) dummy takes a value is this
--- project's own.
-pub data Passed : Type 0 where
-  by_value : ℤ → Passed
-  at_place : Place → Passed
-
--- ---- the machine
-
--- An item of the machine's stack: a number or a truth, the position of an element or slot, or a place.
-pub data Item : Type 0 where
-  value : ℤ → Item
-  position_of : ℕ → Item
-  place_of : Place → Item
 
 -- What is kept of a unit while it is executed: the number of its plan, its slots and dummies, the place in the
 -- code to which it returns, and the result of the procedure that it called last.

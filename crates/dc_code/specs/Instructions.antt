@@ -13,6 +13,9 @@ use Rattle.dc_int.specs.Kinds.{wrapped}
 use Rattle.dc_int.specs.Operations.{Outcome, applied}
 use Rattle.dc_int.specs.Reductions.{truth, number_of_truth, conjunction, disjunction, equivalence, non_equivalence}
 use Rattle.dc_int.specs.Sorts.{Sort, whole, logical, sort_with}
+use Rattle.dc_code.specs.declared.frame.Item.{Item}
+use Rattle.dc_code.specs.declared.frame.Passed.{Passed}
+use Rattle.dc_code.specs.declared.frame.Place.{Place}
 use Rattle.dc_code.specs.declared.instr.Folding.{Folding}
 use Rattle.dc_code.specs.declared.instr.Relation.{Relation}
 use Rattle.dc_code.specs.declared.instr.What.{What}
@@ -23,7 +26,7 @@ use Rattle.dc_code.specs.Closing.{combined_with}
 use Rattle.dc_code.specs.Codes.{CodeLists, element, elements_of_variable, plan_numbered}
 use Rattle.dc_code.specs.Combinations.{Span, natural, has_zero_step, value_count}
 use Rattle.dc_code.specs.Computation.{give, fail, contribute, pause, ◌>>=◌}
-use Rattle.dc_code.specs.Frames.{Place, Passed, by_value, at_place, Item, value, place_of, Frame, pushed, with_line, put, put_each, fresh_unit, innermost, entered, left_unit}
+use Rattle.dc_code.specs.Frames.{Frame, pushed, with_line, put, put_each, fresh_unit, innermost, entered, left_unit}
 use Rattle.dc_code.specs.Operands.{faulty, stuck, required, item_off, value_off, position_off, items_off}
 use Rattle.dc_code.specs.Reaching.{positioned, group_planned, group_bounds, can_hold, outer_place, slot_place, loaded, stored, forgotten, place_forgotten, place_pushed, dummy, dummy_place, dummy_loaded, dummy_stored, filled, slots_filled, all_read, all_required, group_slots}
 use Rattle.dc_code.specs.Troubles.{Computing, write_line, take_value, take_elements, end_reading, enter_loop, stop}
@@ -48,12 +51,12 @@ abbrev pub computed : Bool → ℕ → Op → Kind → Frame → Computing Frame
 computed true line op kind frame = do
   (a, left) ← value_off line frame
   z ← settled line (applied op kind a (pos 0))
-  give (pushed (value z) left)
+  give (pushed (Item.Value z) left)
 computed false line op kind frame = do
   (b, below) ← value_off line frame
   (a, left) ← value_off line below
   z ← settled line (applied op kind a b)
-  give (pushed (value z) left)
+  give (pushed (Item.Value z) left)
 
 abbrev pub arithmetic : ℕ → Op → Kind → Frame → Computing Frame
 arithmetic line op kind frame = computed (takes_one op) line op kind frame
@@ -71,19 +74,19 @@ abbrev pub of_two : ℕ → (ℤ → ℤ → ℤ) → Frame → Computing Frame
 of_two line make frame = do
   (b, below) ← value_off line frame
   (a, left) ← value_off line below
-  give (pushed (value (make a b)) left)
+  give (pushed (Item.Value (make a b)) left)
 
 abbrev pub of_one : ℕ → (ℤ → ℤ) → Frame → Computing Frame
 of_one line make frame = do
   (a, left) ← value_off line frame
-  give (pushed (value (make a)) left)
+  give (pushed (Item.Value (make a)) left)
 
 abbrev pub merged : ℕ → Frame → Computing Frame
 merged line frame = do
   (mask, below) ← value_off line frame
   (otherwise, under) ← value_off line below
   (chosen, left) ← value_off line under
-  give (pushed (value (if truth mask then chosen else otherwise)) left)
+  give (pushed (Item.Value (if truth mask then chosen else otherwise)) left)
 
 -- SUM, COUNT, ANY and ALL of values, of clause 16.9.
 abbrev pub folded : Folding → Kind → List ℤ → ℤ
@@ -95,13 +98,13 @@ folded Folding.All kind zs = number_of_truth (list_all truth zs)
 abbrev pub folding_pushed : CodeLists → ℕ → Folding → ℕ → Option Shape → Frame → Computing Frame
 folding_pushed code line folding variable (Some shape) frame = do
   zs ← all_read code line (elements_of_variable code variable)
-  give (pushed (value (folded folding shape.kind zs)) frame)
+  give (pushed (Item.Value (folded folding shape.kind zs)) frame)
 folding_pushed code line folding variable None frame = stuck line
 
 abbrev pub slot_folding_pushed : ℕ → Folding → ℕ → Option Group → Frame → Computing Frame
 slot_folding_pushed line folding group (Some found) frame = do
   zs ← all_required line (group_slots frame group)
-  give (pushed (value (folded folding found.kind zs)) frame)
+  give (pushed (Item.Value (folded folding found.kind zs)) frame)
 slot_folding_pushed line folding group None frame = stuck line
 
 -- A position and then a value are taken off; the value is contributed to the element.
@@ -130,15 +133,15 @@ counted line frame = do
   (last, under) ← value_off line below
   (first, left) ← value_off line under
   rounds ← rounds_of line (record { first = first; last = last; step = step })
-  give (pushed (value rounds) left)
+  give (pushed (Item.Value rounds) left)
 
 -- ---- calls
 
 -- A value for INTENT(IN), and a place for the others.
 abbrev pub passed_as : ℕ → Passing → Item → Computing Passed
-passed_as line Passing.Value (value z) = give (by_value z)
-passed_as line Passing.Place (place_of at) = give (at_place at)
-passed_as line Passing.OutPlace (place_of at) = give (at_place at)
+passed_as line Passing.Value (Item.Value z) = give (Passed.ByValue z)
+passed_as line Passing.Place (Item.Place at) = give (Passed.AtPlace at)
+passed_as line Passing.OutPlace (Item.Place at) = give (Passed.AtPlace at)
 passed_as line passing item = stuck line
 
 abbrev pub passed_to : ℕ → List DummyPlan → List Item → Computing (List Passed)
@@ -151,7 +154,7 @@ passed_to line dummies items = stuck line
 
 -- The places of INTENT(OUT) dummies become undefined, in order.
 abbrev pub forgotten_out : CodeLists → ℕ → Passing → Passed → Frame → Computing Frame
-forgotten_out code line Passing.OutPlace (at_place at) frame = place_forgotten code line at frame
+forgotten_out code line Passing.OutPlace (Passed.AtPlace at) frame = place_forgotten code line at frame
 forgotten_out code line passing given frame = give frame
 
 abbrev pub all_forgotten_out : CodeLists → ℕ → List DummyPlan → List Passed → Frame → Computing Frame
@@ -191,7 +194,7 @@ returned go line frame turns =
 abbrev pub result_pushed : ℕ → Frame → Computing Frame
 result_pushed line frame = do
   z ← required line (innermost frame).returned
-  give (pushed (value z) frame)
+  give (pushed (Item.Value z) frame)
 
 -- ---- output
 
@@ -232,8 +235,8 @@ abbrev pub behind : Going → ℕ → ℕ → Computing Frame → Computing (Fra
 behind go at turns work = work >>= (λ frame. go (suc at) frame turns)
 
 abbrev pub act : CodeLists → Going → ℕ → What → Going
-act code go line (What.Const kind n) at frame turns = go (suc at) (pushed (value n) frame) turns
-act code go line (What.Truth n) at frame turns = go (suc at) (pushed (value (number_of_truth n)) frame) turns
+act code go line (What.Const kind n) at frame turns = go (suc at) (pushed (Item.Value n) frame) turns
+act code go line (What.Truth n) at frame turns = go (suc at) (pushed (Item.Value (number_of_truth n)) frame) turns
 act code go line What.Drop at frame turns = item_off line frame >>= (λ w. go (suc at) w.1 turns)
 act code go line (What.Arith op kind) at frame turns = behind go at turns (arithmetic line op kind frame)
 act code go line (What.Wrap kind) at frame turns = behind go at turns (of_one line (wrapped kind) frame)
@@ -278,8 +281,8 @@ act code go line (What.PutChars x) at frame turns = behind go at turns (text_put
 act code go line (What.PutAll v) at frame turns = behind go at turns (all_put code line v (slice_get code.shapes v) frame)
 act code go line What.PutEnd at frame turns = pause (write_line line (frame.line ++ 10 ∷ [])) (λ told. go (suc at) (with_line [] false frame) turns)
 act code go line (What.TakeNumber kind) at frame turns =
-    pause (take_value line (whole kind)) (λ told. go (suc at) (pushed (value told) frame) turns)
-act code go line What.TakeTruth at frame turns = pause (take_value line logical) (λ told. go (suc at) (pushed (value told) frame) turns)
+    pause (take_value line (whole kind)) (λ told. go (suc at) (pushed (Item.Value told) frame) turns)
+act code go line What.TakeTruth at frame turns = pause (take_value line logical) (λ told. go (suc at) (pushed (Item.Value told) frame) turns)
 act code go line (What.TakeAll v) at frame turns =
     pause (take_elements line (sort_of_variable code v) (elements_of_variable code v)) (λ told. go (suc at) frame turns)
 act code go line (What.TakeEnd n) at frame turns = pause (end_reading line n) (λ told. go (suc at) frame turns)

@@ -2,8 +2,11 @@
 use Rattle.std.specs.Prelude.{ℕ, zero, suc, List, [], ◌∷◌, ◌++◌, Option, Some, None, ℤ}
 use Rattle.dc_int.specs.declared.fault.FaultKind.{FaultKind}
 use Rattle.dc_int.specs.declared.fault.Why.{Why}
+use Rattle.dc_code.specs.declared.frame.Item.{Item}
+use Rattle.dc_code.specs.declared.frame.Passed.{Passed}
+use Rattle.dc_code.specs.declared.frame.Place.{Place}
 use Rattle.dc_code.specs.Computation.{give, fail, ◌>>=◌}
-use Rattle.dc_code.specs.Frames.{Item, value, position_of, Frame, with_stack}
+use Rattle.dc_code.specs.Frames.{Frame, with_stack}
 use Rattle.dc_code.specs.Troubles.{Computing}
 
 -- ---- how an instruction ends badly
@@ -30,14 +33,14 @@ abbrev pub item_off : ℕ → Frame → Computing (Item × Frame)
 item_off line frame = top_off line frame frame.stack
 
 abbrev pub as_value : ℕ → Item × Frame → Computing (ℤ × Frame)
-as_value line (value z, left) = give (z, left)
+as_value line (Item.Value z, left) = give (z, left)
 as_value line (other, left) = stuck line
 
 abbrev pub value_off : ℕ → Frame → Computing (ℤ × Frame)
 value_off line frame = item_off line frame >>= as_value line
 
 abbrev pub as_position : ℕ → Item × Frame → Computing (ℕ × Frame)
-as_position line (position_of at, left) = give (at, left)
+as_position line (Item.Position at, left) = give (at, left)
 as_position line (other, left) = stuck line
 
 abbrev pub position_off : ℕ → Frame → Computing (ℕ × Frame)

@@ -6,10 +6,13 @@ use Rattle.dc_int.specs.declared.fault.FaultKind.{FaultKind}
 use Rattle.dc_int.specs.declared.variable.Shape.{Shape}
 use Rattle.dc_int.specs.Kinds.{value_fits}
 use Rattle.dc_int.specs.Store.{Bounds, position_in, changed_at}
+use Rattle.dc_code.specs.declared.frame.Item.{Item}
+use Rattle.dc_code.specs.declared.frame.Passed.{Passed}
+use Rattle.dc_code.specs.declared.frame.Place.{Place}
 use Rattle.dc_code.specs.declared.plan.Group.{Group}
 use Rattle.dc_code.specs.Codes.{CodeLists, element, elements_of_variable, plan_numbered}
 use Rattle.dc_code.specs.Computation.{give, read, define, undefine, ◌>>=◌}
-use Rattle.dc_code.specs.Frames.{Place, outer, in_frame, Passed, by_value, at_place, value, position_of, place_of, UnitFrame, Frame, pushed, with_units, with_slots, with_dummies, level, innermost, innermost_changed, slot_of, slot_put}
+use Rattle.dc_code.specs.Frames.{UnitFrame, Frame, pushed, with_units, with_slots, with_dummies, level, innermost, innermost_changed, slot_of, slot_put}
 use Rattle.dc_code.specs.Operands.{faulty, stuck, required, value_off, values_off, position_off}
 use Rattle.dc_code.specs.Troubles.{Computing}
 
@@ -25,7 +28,7 @@ positioned line None frame = stuck line
 positioned line (Some bounds) frame = do
   (subscripts, left) ← values_off line (length bounds) frame
   at ← within_bounds line (position_in bounds subscripts)
-  give (pushed (position_of at) left)
+  give (pushed (Item.Position at) left)
 
 -- A group of the innermost unit, as its plan has it.
 abbrev pub group_planned : CodeLists → Frame → ℕ → Option Group
@@ -61,33 +64,33 @@ element_read code line x = if is_there code x then read x line (required line) e
 
 -- A reference to a place, which has to be defined.
 abbrev pub place_read : CodeLists → ℕ → Frame → Place → Computing ℤ
-place_read code line frame (outer x) = element_read code line x
-place_read code line frame (in_frame number group at) = required line (slot_of frame.units number group at)
+place_read code line frame (Place.Outer x) = element_read code line x
+place_read code line frame (Place.InFrame number group at) = required line (slot_of frame.units number group at)
 
 abbrev pub place_defined : CodeLists → ℕ → Place → ℤ → Frame → Computing Frame
-place_defined code line (outer x) z frame = if can_hold code x z then define x z line (give frame) else stuck line
-place_defined code line (in_frame number group at) z frame = give (with_units (slot_put number group at (Some z) frame.units) frame)
+place_defined code line (Place.Outer x) z frame = if can_hold code x z then define x z line (give frame) else stuck line
+place_defined code line (Place.InFrame number group at) z frame = give (with_units (slot_put number group at (Some z) frame.units) frame)
 
 abbrev pub place_forgotten : CodeLists → ℕ → Place → Frame → Computing Frame
-place_forgotten code line (outer x) frame = if is_there code x then undefine x line (give frame) else stuck line
-place_forgotten code line (in_frame number group at) frame = give (with_units (slot_put number group at None frame.units) frame)
+place_forgotten code line (Place.Outer x) frame = if is_there code x then undefine x line (give frame) else stuck line
+place_forgotten code line (Place.InFrame number group at) frame = give (with_units (slot_put number group at None frame.units) frame)
 
 -- The place at a position that is taken off, of an outside variable or of a group of the innermost unit.
 abbrev pub outer_place : ℕ → ℕ → Frame → Computing (Place × Frame)
 outer_place line variable frame = do
   (at, left) ← position_off line frame
-  give (outer (element variable at), left)
+  give (Place.Outer (element variable at), left)
 
 abbrev pub slot_place : ℕ → ℕ → Frame → Computing (Place × Frame)
 slot_place line group frame = do
   (at, left) ← position_off line frame
-  give (in_frame (level frame) group at, left)
+  give (Place.InFrame (level frame) group at, left)
 
 abbrev pub loaded : CodeLists → ℕ → Computing (Place × Frame) → Computing Frame
 loaded code line found = do
   (at, left) ← found
   z ← place_read code line left at
-  give (pushed (value z) left)
+  give (pushed (Item.Value z) left)
 
 abbrev pub stored : CodeLists → ℕ → Computing (Place × Frame) → Computing Frame
 stored code line found = do
@@ -103,7 +106,7 @@ forgotten code line found = do
 abbrev pub place_pushed : Computing (Place × Frame) → Computing Frame
 place_pushed found = do
   (at, left) ← found
-  give (pushed (place_of at) left)
+  give (pushed (Item.Place at) left)
 
 -- ---- dummies
 
@@ -111,17 +114,17 @@ abbrev pub dummy : Frame → ℕ → Option Passed
 dummy frame number = slice_get (innermost frame).dummies number
 
 abbrev pub dummy_place : ℕ → Frame → Option Passed → Computing (Place × Frame)
-dummy_place line frame (Some (at_place at)) = give (at, frame)
+dummy_place line frame (Some (Passed.AtPlace at)) = give (at, frame)
 dummy_place line frame other = stuck line
 
 abbrev pub dummy_loaded : CodeLists → ℕ → Frame → Option Passed → Computing Frame
-dummy_loaded code line frame (Some (by_value z)) = give (pushed (value z) frame)
+dummy_loaded code line frame (Some (Passed.ByValue z)) = give (pushed (Item.Value z) frame)
 dummy_loaded code line frame other = loaded code line (dummy_place line frame other)
 
 abbrev pub dummy_stored : CodeLists → ℕ → ℕ → Frame → Option Passed → Computing Frame
-dummy_stored code line number frame (Some (by_value before)) = do
+dummy_stored code line number frame (Some (Passed.ByValue before)) = do
   (z, left) ← value_off line frame
-  give (innermost_changed (λ unit. with_dummies (slice_set unit.dummies number (by_value z)) unit) left)
+  give (innermost_changed (λ unit. with_dummies (slice_set unit.dummies number (Passed.ByValue z)) unit) left)
 dummy_stored code line number frame other = stored code line (dummy_place line frame other)
 
 -- ---- whole arrays

@@ -3,6 +3,7 @@
 #![tactic(auto)]
 
 mod code;
+mod frame;
 mod instr;
 mod law;
 mod loop_law;
@@ -11,6 +12,7 @@ mod plan;
 mod verdict;
 
 pub use code::Code;
+pub use frame::{Item, Passed, Place};
 pub use instr::{Folding, Instr, Relation, What};
 pub use law::{
     a_run_is_its_entries, agreeing_stores_run_alike, first_this_then_that, named_pair_breaks,
