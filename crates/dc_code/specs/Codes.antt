@@ -1,6 +1,6 @@
 -- A code: its instructions, and what these speak of. This project's own.
-use Rattle.std.specs.Prelude.{ℕ, suc, nat_eq, List, [], ◌∷◌, ◌++◌, map, flat_map, replicate, slice_get, Option, Some, None, if◌then◌else◌, ℤ}
-use Rattle.std.specs.List.{range_with_len}
+use Rattle.std.specs.Prelude.{ℕ, suc, Bool, ◌&&◌, nat_eq, nat_le, List, [], ◌∷◌, ◌++◌, map, flat_map, replicate, slice_get, Option, Some, None, if◌then◌else◌, ℤ}
+use Rattle.std.specs.List.{range_with_len, list_all}
 use Rattle.dc_int.specs.declared.access.ElementId.{ElementId}
 use Rattle.dc_int.specs.declared.kind.Kind.{Kind}
 use Rattle.dc_int.specs.declared.variable.Shape.{Shape}
@@ -35,6 +35,19 @@ element variable position = record { variable = variable; position = position }
 -- All elements of a variable, in store order.
 abbrev pub elements_of_variable : CodeLists → ℕ → List ElementId
 elements_of_variable code variable = map (element variable) (range_with_len 0 (elements_of_shape (slice_get code.shapes variable)))
+
+-- No variable and no group has more elements than a store holds.
+abbrev pub greatest_size : ℕ
+greatest_size = 4194304
+
+abbrev pub is_small : Bounds → Bool
+is_small bounds = nat_le (elements_in bounds) greatest_size
+
+abbrev pub has_small_groups : Plan → Bool
+has_small_groups plan = list_all (λ (group : Group). is_small group.bounds) plan.groups
+
+abbrev pub are_small : CodeLists → Bool
+are_small code = list_all is_small code.bounds && list_all has_small_groups code.plans
 
 -- ---- frames
 

@@ -1,5 +1,5 @@
 -- Which codes are well formed: one sentence a condition. This project's own.
-use Rattle.std.specs.Prelude.{◌≡◌, ◌≤◌, ◌<◌, ℕ, zero, suc, ◌+◌, ◌-◌, ◌*◌, Bool, true, false, ◌&&◌, ◌||◌, not, nat_eq, nat_le, nat_lt, List, [], ◌∷◌, ◌++◌, map, filter, filter_map, flat_map, length, min, take, drop, zip, slice_get, is_some, Option, Some, None, option_and_then, option_map, if◌then◌else◌, ℤ}
+use Rattle.std.specs.Prelude.{◌≡◌, ◌≤◌, ◌<◌, ℕ, zero, suc, ◌+◌, ◌-◌, ◌*◌, Bool, true, false, ◌&&◌, ◌||◌, not, nat_eq, nat_le, nat_lt, List, [], ◌∷◌, ◌++◌, map, filter, filter_map, flat_map, length, min, take, drop, zip, slice_get, is_some, Option, Some, None, option_and_then, option_map, IsTrue, if◌then◌else◌, ℤ}
 use Rattle.std.specs.List.{list_all, list_any, range_with_len}
 use Rattle.dc_int.specs.declared.kind.Kind.{Kind}
 use Rattle.dc_int.specs.declared.operation.ReduceOp.{ReduceOp}
@@ -14,7 +14,7 @@ use Rattle.dc_code.specs.declared.plan.ConstructCode.{ConstructCode}
 use Rattle.dc_code.specs.declared.plan.DummyPlan.{DummyPlan}
 use Rattle.dc_code.specs.declared.plan.Group.{Group}
 use Rattle.dc_code.specs.declared.plan.Plan.{Plan}
-use Rattle.dc_code.specs.Codes.{CodeLists, starts}
+use Rattle.dc_code.specs.Codes.{CodeLists, are_small, starts}
 use Rattle.dc_code.specs.CodeForms.{locality_in}
 use Rattle.dc_code.specs.StackSorts.{Sorts, number, a_truth, same_sorts, same_kind, same_flag, sorts_after}
 
@@ -229,6 +229,7 @@ are_different (first ∷ rest) = not (list_any (nat_eq first) rest) && are_diffe
 -- places, and the stack has sorts at each place with which every instruction can stand where it does.
 pub record IsWellFormed (code : CodeLists) : Type 0 where
   pub bounds : bounds_fit code.shapes code.bounds ≡ true
+  pub sizes : IsTrue (are_small code)
   pub plans : length code.plans ≡ length (starts code)
   pub constructs : list_all (construct_fits (length code.shapes)) code.constructs ≡ true
   pub different : are_different (starts code) ≡ true

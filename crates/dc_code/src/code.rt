@@ -1,8 +1,9 @@
 //! `Code`, a program as instructions.
 
-ghost use Rattle.std.specs.Prelude.{◌≡◌};
+ghost use Rattle.std.specs.Prelude.{◌≡◌, IsTrue};
+ghost use Rattle.std.specs.List.{list_all};
 ghost use Rattle.dc_code.specs.WellFormed.{IsWellFormed};
-ghost use Rattle.dc_code.specs.Codes.{CodeLists};
+ghost use Rattle.dc_code.specs.Codes.{CodeLists, is_small, has_small_groups};
 
 use crate::instr::Instr;
 use crate::plan::{ConstructCode, Plan};
@@ -23,12 +24,17 @@ pub struct Code {
 }
 
 impl Model for Code {
-    ghost use Rattle.dc_code.specs.Codes.{CodeLists};
+    ghost use Rattle.std.specs.Prelude.{IsTrue};
+    ghost use Rattle.dc_code.specs.Codes.{CodeLists, are_small};
 
     ghost Value = { CodeLists };
 
     ghost view = { λ a. record { instructions = a.instructions; texts = a.texts; shapes = a.shapes;
         bounds = a.bounds; plans = a.plans; entries = a.entries; constructs = a.constructs } };
+
+    ghost invariant = { λ a. IsTrue (are_small (record { instructions = a.instructions; texts = a.texts;
+        shapes = a.shapes; bounds = a.bounds; plans = a.plans; entries = a.entries;
+        constructs = a.constructs })) };
 }
 
 impl Code {
@@ -83,14 +89,16 @@ impl Code {
 
     /// The least and the greatest subscript of each dimension of each outside variable.
     pub fn bounds(&self) -> &[DcList<(i64, i64)>]
-        ensures { result.now ≡ (self.now).bounds }
+        ensures bounds { result.now ≡ (self.now).bounds }
+        ensures small { IsTrue (list_all is_small result.now) }
     {
         self.bounds.as_slice()
     }
 
     /// What the frames of the parts have.
     pub fn plans(&self) -> &[Plan]
-        ensures { result.now ≡ (self.now).plans }
+        ensures plans { result.now ≡ (self.now).plans }
+        ensures small { IsTrue (list_all has_small_groups result.now) }
     {
         self.plans.as_slice()
     }
