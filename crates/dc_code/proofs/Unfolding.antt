@@ -3,7 +3,7 @@ use Rattle.std.proofs.Common.{◌≡◌, ◌<◌, ◌≤◌, ℕ, zero, suc, ◌
 use Rattle.std.proofs.lemmas.Bool.{ltb-true}
 use Rattle.std.proofs.lemmas.List.{length-take}
 use Rattle.std.proofs.lemmas.Option.{none-some}
-use Rattle.std.specs.Prelude.{ℤ, pos, map, Ok, Err, min, take, nat_lt, slice_get, if◌then◌else◌}
+use Rattle.std.specs.Prelude.{ℤ, pos, map, is_some, Ok, Err, min, take, nat_lt, slice_get, if◌then◌else◌}
 use Rattle.dc_int.specs.declared.access.ElementId.{ElementId}
 use Rattle.dc_int.specs.declared.kind.Kind.{Kind}
 use Rattle.dc_int.specs.declared.operation.Op.{Op}
@@ -27,10 +27,10 @@ use Rattle.dc_code.specs.Codes.{CodeLists, element, elements_of_variable, plan_n
 use Rattle.dc_code.specs.Combinations.{natural}
 use Rattle.dc_code.specs.Computation.{give, fail, read, define, undefine, contribute, ask, pause, sequence, ◌>>=◌}
 use Rattle.dc_code.specs.Frames.{UnitFrame, Frame, pushed, fresh_unit, entered, slot_put, with_units, with_line, put, put_each, level, innermost, innermost_changed, left_unit}
-use Rattle.dc_code.specs.Instructions.{Going, act, behind, ahead, called, returned, passed_to, deepened, takes_one, arithmetic, computed, settled, of_one, of_two, merged, spent, folding_pushed, slot_folding_pushed, contributed, rounds_of, counted, result_pushed, value_put, text_put, all_put, forgotten_out, all_forgotten_out, sort_of_variable}
+use Rattle.dc_code.specs.Instructions.{Going, act, behind, ahead, called, returned, passed_to, deepened, takes_one, arithmetic, computed, settled, of_one, of_two, merged, spent, folding_pushed, slot_folding_pushed, contributed, contributed_as, rounds_of, counted, result_pushed, value_put, text_put, all_put, forgotten_out, all_forgotten_out, sort_of_variable}
 use Rattle.dc_code.specs.Machine.{fetched, steps, bound, machine}
 use Rattle.dc_code.specs.Operands.{item_off, top_off, value_off, as_value, position_off, as_position, items_off, values_off, required}
-use Rattle.dc_code.specs.Reaching.{place_read, place_defined, place_forgotten, element_read, outer_place, slot_place, loaded, stored, forgotten, positioned, within_bounds, can_hold, is_there, dummy_place, dummy_loaded, dummy_stored, place_pushed, filled, slots_filled, all_read, all_defined, all_required, group_slots, group_planned, group_bounds, dummy}
+use Rattle.dc_code.specs.Reaching.{place_read, place_defined, place_forgotten, element_read, outer_place, slot_place, loaded, stored, forgotten, positioned, within_bounds, sort_of_shape, element_sort, element_defined, dummy_place, dummy_loaded, dummy_stored, place_pushed, filled, slots_filled, all_read, all_defined, all_required, group_slots, group_planned, group_bounds, dummy}
 use Rattle.dc_code.specs.Troubles.{Computing, write_line, take_value, take_elements, end_reading, enter_loop, stop}
 use Rattle.dc_lists.specs.Output.{written}
 use Rattle.dc_code.proofs.Sequences.{Gives, gives-then, same-then}
@@ -153,11 +153,11 @@ loaded-kept : (code : CodeLists) (line : ℕ) (frame : Frame) (found : Computing
 loaded-kept code line frame found kept = gives-then (KeptBeside frame) (Kept frame) found _ kept (λ w also. behind-any (Kept frame) (place_read code line w.1 w.0) _ (λ z. also))
 
 defined-kept : (code : CodeLists) (line : ℕ) (at : Place) (z : ℤ) (frame : Frame) → Gives (Kept frame) (place_defined code line at z frame)
-defined-kept code line (Place.Outer x) z frame = if-gives (Kept frame) (can_hold code x z) _ _ refl tt
+defined-kept code line (Place.Outer x) z frame = behind-any (Kept frame) (element_defined code line x z) (λ done. give frame) (λ done. refl)
 defined-kept code line (Place.InFrame number group at) z frame = length-changed _ frame.units number
 
 forgotten-kept : (code : CodeLists) (line : ℕ) (at : Place) (frame : Frame) → Gives (Kept frame) (place_forgotten code line at frame)
-forgotten-kept code line (Place.Outer x) frame = if-gives (Kept frame) (is_there code x) _ _ refl tt
+forgotten-kept code line (Place.Outer x) frame = if-gives (Kept frame) (is_some (element_sort code x)) _ _ refl tt
 forgotten-kept code line (Place.InFrame number group at) frame = length-changed _ frame.units number
 
 through-kept : (frame left : Frame) (c : Computing Frame) → Kept frame left → Gives (Kept left) c → Gives (Kept frame) c
@@ -194,8 +194,8 @@ dummy_store-kept code line number frame (Some (Passed.AtPlace at)) = stored-kept
 filled-kept : (code : CodeLists) (line variable : ℕ) (frame : Frame) → Gives (Kept frame) (filled code line variable frame)
 filled-kept code line variable frame = behind-value (Kept frame) line frame _ (λ z left kept. behind-any (Kept frame) (all_defined code line (elements_of_variable code variable) z) _ (λ done. kept))
 
-slots_filled-kept : (line group : ℕ) (frame : Frame) → Gives (Kept frame) (slots_filled line group frame)
-slots_filled-kept line group frame = behind-value (Kept frame) line frame _ (λ z left kept. innermost-kept _ left ∙ kept)
+slots_filled-kept : (code : CodeLists) (line group : ℕ) (frame : Frame) → Gives (Kept frame) (slots_filled code line group frame)
+slots_filled-kept code line group frame = behind-value (Kept frame) line frame _ (λ z left kept. innermost-kept _ left ∙ kept)
 
 folding-kept : (code : CodeLists) (line : ℕ) (folding : Folding) (variable : ℕ) (shape : Option Shape) (frame : Frame) → Gives (Kept frame) (folding_pushed code line folding variable shape frame)
 folding-kept code line folding variable None frame = tt
@@ -208,7 +208,7 @@ slot_folding-kept line folding group (Some found) frame = behind-any (Kept frame
 contributed-kept : (code : CodeLists) (line : ℕ) (op : ReduceOp) (variable : ℕ) (frame : Frame) → Gives (Kept frame) (contributed code line op variable frame)
 contributed-kept code line op variable frame =
     gives-then (KeptBeside frame) (Kept frame) (position_off line frame) _ (position-kept line frame)
-    (λ w kept. behind-value (Kept frame) line w.1 _ (λ z left also. if-gives (Kept frame) (can_hold code (element variable w.0) z) _ _ (also ∙ kept) tt))
+    (λ w kept. behind-value (Kept frame) line w.1 _ (λ z left also. behind-any (Kept frame) (contributed_as line (element variable w.0) op z (element_sort code (element variable w.0))) (λ done. give left) (λ done. also ∙ kept)))
 
 counted-kept : (line : ℕ) (frame : Frame) → Gives (Kept frame) (counted line frame)
 counted-kept line frame =
@@ -232,8 +232,8 @@ put_each-kept (text ∷ texts) frame = put_each-kept texts (put text frame)
 all_put-kept : (code : CodeLists) (line variable : ℕ) (shape : Option Shape) (frame : Frame) → Gives (Kept frame) (all_put code line variable shape frame)
 all_put-kept code line variable None frame = tt
 all_put-kept code line variable (Some shape) frame =
-    behind-any (Kept frame) (all_read code line (elements_of_variable code variable)) (λ zs. give (put_each (map (written (sort_with shape.logical shape.kind)) zs) frame))
-    (λ zs. put_each-kept (map (written (sort_with shape.logical shape.kind)) zs) frame)
+    behind-any (Kept frame) (all_read code line (elements_of_variable code variable)) (λ zs. give (put_each (map (written (sort_of_shape shape)) zs) frame))
+    (λ zs. put_each-kept (map (written (sort_of_shape shape)) zs) frame)
 
 forgotten_out-kept : (code : CodeLists) (line : ℕ) (passing : Passing) (given : Passed) (frame : Frame) → Gives (Kept frame) (forgotten_out code line passing given frame)
 forgotten_out-kept code line Passing.Value (Passed.ByValue z) frame = refl
@@ -412,7 +412,7 @@ act-same code next other line (What.PlaceOfDummy d) at frame turns before same =
 act-same code next other line (What.LoadDummy d) at frame turns before same = behind-same code next other at frame turns _ before same (dummy_load-kept code line frame (dummy frame d))
 act-same code next other line (What.StoreDummy d) at frame turns before same = behind-same code next other at frame turns _ before same (dummy_store-kept code line d frame (dummy frame d))
 act-same code next other line (What.Fill v) at frame turns before same = behind-same code next other at frame turns _ before same (filled-kept code line v frame)
-act-same code next other line (What.FillSlot s) at frame turns before same = behind-same code next other at frame turns _ before same (slots_filled-kept line s frame)
+act-same code next other line (What.FillSlot s) at frame turns before same = behind-same code next other at frame turns _ before same (slots_filled-kept code line s frame)
 act-same code next other line (What.Fold f v) at frame turns before same = behind-same code next other at frame turns _ before same (folding-kept code line f v _ frame)
 act-same code next other line (What.FoldSlot f s) at frame turns before same = behind-same code next other at frame turns _ before same (slot_folding-kept line f s _ frame)
 act-same code next other line (What.Contribute op v) at frame turns before same = behind-same code next other at frame turns _ before same (contributed-kept code line op v frame)

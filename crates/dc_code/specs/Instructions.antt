@@ -2,6 +2,7 @@
 -- meaning.
 use Rattle.std.specs.Prelude.{ℕ, zero, suc, ◌-◌, Bool, true, false, ◌&&◌, not, nat_lt, List, [], ◌∷◌, ◌++◌, map, min, length, filter, slice_get, Option, Some, None, Ok, Err, if◌then◌else◌, ℤ, pos, int_le}
 use Rattle.std.specs.List.{list_any, list_all}
+use Rattle.dc_int.specs.declared.access.ElementId.{ElementId}
 use Rattle.dc_int.specs.declared.fault.FaultKind.{FaultKind}
 use Rattle.dc_int.specs.declared.fault.Why.{Why}
 use Rattle.dc_int.specs.declared.kind.Kind.{Kind}
@@ -12,7 +13,7 @@ use Rattle.dc_int.specs.declared.variable.Shape.{Shape}
 use Rattle.dc_int.specs.Kinds.{wrapped}
 use Rattle.dc_int.specs.Operations.{Outcome, applied}
 use Rattle.dc_int.specs.Reductions.{truth, number_of_truth, conjunction, disjunction, equivalence, non_equivalence}
-use Rattle.dc_int.specs.Sorts.{Sort, whole, logical, sort_with}
+use Rattle.dc_int.specs.Sorts.{Sort, whole, logical, fitted}
 use Rattle.dc_code.specs.declared.frame.Item.{Item}
 use Rattle.dc_code.specs.declared.frame.Passed.{Passed}
 use Rattle.dc_code.specs.declared.frame.Place.{Place}
@@ -28,7 +29,7 @@ use Rattle.dc_code.specs.Combinations.{Span, natural, has_zero_step, value_count
 use Rattle.dc_code.specs.Computation.{give, fail, contribute, pause, ◌>>=◌}
 use Rattle.dc_code.specs.Frames.{Frame, pushed, with_line, put, put_each, fresh_unit, innermost, entered, left_unit}
 use Rattle.dc_code.specs.Operands.{faulty, stuck, required, item_off, value_off, position_off, items_off}
-use Rattle.dc_code.specs.Reaching.{positioned, group_planned, group_bounds, can_hold, outer_place, slot_place, loaded, stored, forgotten, place_forgotten, place_pushed, dummy, dummy_place, dummy_loaded, dummy_stored, filled, slots_filled, all_read, all_required, group_slots}
+use Rattle.dc_code.specs.Reaching.{positioned, group_planned, group_bounds, sort_of_shape, element_sort, outer_place, slot_place, loaded, stored, forgotten, place_forgotten, place_pushed, dummy, dummy_place, dummy_loaded, dummy_stored, filled, slots_filled, all_read, all_required, group_slots}
 use Rattle.dc_code.specs.Troubles.{Computing, write_line, take_value, take_elements, end_reading, enter_loop, stop}
 use Rattle.dc_lists.specs.Output.{written}
 
@@ -107,12 +108,17 @@ slot_folding_pushed line folding group (Some found) frame = do
   give (pushed (Item.Value (folded folding found.kind zs)) frame)
 slot_folding_pushed line folding group None frame = stuck line
 
+abbrev pub contributed_as : ℕ → ElementId → ReduceOp → ℤ → Option Sort → Computing Unit
+contributed_as line x op z (Some sort) = contribute x op (fitted sort z) (give tt)
+contributed_as line x op z None = stuck line
+
 -- A position and then a value are taken off; the value is contributed to the element.
 abbrev pub contributed : CodeLists → ℕ → ReduceOp → ℕ → Frame → Computing Frame
 contributed code line op variable frame = do
   (at, below) ← position_off line frame
   (z, left) ← value_off line below
-  if can_hold code (element variable at) z then contribute (element variable at) op z (give left) else stuck line
+  done ← contributed_as line (element variable at) op z (element_sort code (element variable at))
+  give left
 
 -- ---- turns and loops
 
@@ -211,7 +217,7 @@ text_put line None frame = stuck line
 abbrev pub all_put : CodeLists → ℕ → ℕ → Option Shape → Frame → Computing Frame
 all_put code line variable (Some shape) frame = do
   zs ← all_read code line (elements_of_variable code variable)
-  give (put_each (map (written (sort_with shape.logical shape.kind)) zs) frame)
+  give (put_each (map (written (sort_of_shape shape)) zs) frame)
 all_put code line variable None frame = stuck line
 
 -- ---- input
@@ -220,7 +226,7 @@ abbrev pub sort_of_variable : CodeLists → ℕ → Sort
 sort_of_variable code variable = by (slice_get code.shapes variable)
   where
     by : Option Shape → Sort
-    by (Some shape) = sort_with shape.logical shape.kind
+    by (Some shape) = sort_of_shape shape
     by None = logical
 
 -- ---- jumps
@@ -261,7 +267,7 @@ act code go line (What.PlaceOfDummy d) at frame turns = behind go at turns (plac
 act code go line (What.LoadDummy d) at frame turns = behind go at turns (dummy_loaded code line frame (dummy frame d))
 act code go line (What.StoreDummy d) at frame turns = behind go at turns (dummy_stored code line d frame (dummy frame d))
 act code go line (What.Fill v) at frame turns = behind go at turns (filled code line v frame)
-act code go line (What.FillSlot s) at frame turns = behind go at turns (slots_filled line s frame)
+act code go line (What.FillSlot s) at frame turns = behind go at turns (slots_filled code line s frame)
 act code go line (What.Fold f v) at frame turns = behind go at turns (folding_pushed code line f v (slice_get code.shapes v) frame)
 act code go line (What.FoldSlot f s) at frame turns = behind go at turns (slot_folding_pushed line f s (group_planned code frame s) frame)
 act code go line (What.Contribute op v) at frame turns = behind go at turns (contributed code line op v frame)

@@ -1,5 +1,5 @@
 -- What an instruction asks of the stack, and what it leaves, by the sorts of the items. This project's own.
-use Rattle.std.specs.Prelude.{ℕ, zero, suc, ◌-◌, Bool, true, false, ◌&&◌, ◌||◌, not, nat_eq, nat_lt, List, [], ◌∷◌, length, is_some, slice_get, Option, Some, None, option_and_then, option_map, if◌then◌else◌, ℤ}
+use Rattle.std.specs.Prelude.{ℕ, zero, suc, ◌-◌, Bool, true, false, ◌&&◌, not, nat_eq, nat_le, nat_lt, List, [], ◌∷◌, length, is_some, slice_get, Option, Some, None, option_and_then, option_map, if◌then◌else◌, ℤ}
 use Rattle.dc_int.specs.declared.kind.Kind.{Kind}
 use Rattle.dc_int.specs.declared.operation.Op.{Op}
 use Rattle.dc_int.specs.declared.operation.ReduceOp.{ReduceOp}
@@ -67,9 +67,14 @@ dummy_sort plan dummy = option_map (λ (found : DummyPlan). value_sort found.kin
 
 -- ---- taking off
 
--- The stack without the item on top, which is of this sort.
+-- An item serves where one of its sort is asked for, and a number also where one of a wider kind is.
+abbrev pub serves : ItemSort → ItemSort → Bool
+serves (number wanted) (number given) = nat_le (bits_of given) (bits_of wanted)
+serves wanted given = same_sort wanted given
+
+-- The stack without the item on top, which serves for this sort.
 abbrev pub without_sort : Option ItemSort → Sorts → Option Sorts
-without_sort (Some wanted) (top ∷ rest) = if same_sort wanted top then Some rest else None
+without_sort (Some wanted) (top ∷ rest) = if serves wanted top then Some rest else None
 without_sort wanted sorts = None
 
 -- Without so many numbers, of any kinds.
@@ -104,8 +109,8 @@ of_numbers op kind sorts = by (takes_one op) (takes_place op) sorts
     by : Bool → Bool → Sorts → Option Sorts
     by true any sorts = exchanged (Some (number kind)) (Some (number kind)) sorts
     by false true (number other ∷ rest) = exchanged (Some (number kind)) (Some (number kind)) rest
-    by false false (number other ∷ rest) = if same_kind other kind then exchanged (Some (number kind)) (Some (number kind)) rest else None
-    by false any other = None
+    by false false sorts = option_and_then (exchanged (Some (number kind)) (Some (number kind))) (without_sort (Some (number kind)) sorts)
+    by false true other = None
 
 abbrev pub of_truths : Sorts → Option Sorts
 of_truths (a_truth ∷ a_truth ∷ rest) = Some (a_truth ∷ rest)
@@ -183,7 +188,7 @@ sorts_after code plan before (What.Truth n) sorts = Some (a_truth ∷ sorts)
 sorts_after code plan before What.Drop (top ∷ sorts) = Some sorts
 sorts_after code plan before (What.Arith op kind) sorts = of_numbers op kind sorts
 sorts_after code plan before (What.Wrap kind) (number other ∷ sorts) = Some (number kind ∷ sorts)
-sorts_after code plan before (What.Compare r) (number b ∷ number a ∷ sorts) = if same_kind a b then Some (a_truth ∷ sorts) else None
+sorts_after code plan before (What.Compare r) (number b ∷ number a ∷ sorts) = Some (a_truth ∷ sorts)
 sorts_after code plan before What.And sorts = of_truths sorts
 sorts_after code plan before What.Or sorts = of_truths sorts
 sorts_after code plan before What.Eqv sorts = of_truths sorts
