@@ -1,8 +1,8 @@
 -- Small codes, instruction by instruction, and what the machine does with them.
-use Rattle.std.proofs.Common.{◌≡◌, ℕ, zero, suc, List, [], ◌∷◌, map, true, false, Option, Some, None, refl}
+use Rattle.std.proofs.Common.{◌≡◌, ℕ, suc, List, [], ◌∷◌, true, false, Option, Some, None, refl}
 use Rattle.std.specs.Fmt.{digits}
 use Rattle.std.specs.Int.{int_wrap}
-use Rattle.std.specs.Prelude.{ℤ, pos, negsuc}
+use Rattle.std.specs.Prelude.{pos, negsuc}
 use Rattle.dc_int.specs.declared.access.ElementId.{ElementId}
 use Rattle.dc_int.specs.declared.fault.FaultKind.{FaultKind}
 use Rattle.dc_int.specs.declared.fault.Why.{Why}
@@ -13,21 +13,18 @@ use Rattle.dc_int.specs.declared.variable.Locality.{Locality}
 use Rattle.dc_int.specs.declared.variable.Shape.{Shape}
 use Rattle.dc_int.specs.Entries.{Entry, Reads, Defines, Undefines, Contributes}
 use Rattle.dc_int.specs.Sorts.{whole, logical}
-use Rattle.dc_int.specs.Store.{Store, value_at, put_at, cell_of, bounds_of}
+use Rattle.dc_int.specs.Store.{Store, value_at, put_at, cell_of}
 use Rattle.dc_code.specs.declared.frame.Item.{Item}
-use Rattle.dc_code.specs.declared.frame.Place.{Place}
 use Rattle.dc_code.specs.declared.instr.Folding.{Folding}
 use Rattle.dc_code.specs.declared.instr.Instr.{Instr}
 use Rattle.dc_code.specs.declared.instr.Relation.{Relation}
 use Rattle.dc_code.specs.declared.instr.What.{What}
 use Rattle.dc_code.specs.declared.plan.ConstructCode.{ConstructCode}
-use Rattle.dc_code.specs.declared.plan.DummyPlan.{DummyPlan}
 use Rattle.dc_code.specs.declared.plan.Group.{Group}
 use Rattle.dc_code.specs.declared.plan.Passing.{Passing}
 use Rattle.dc_code.specs.declared.plan.Plan.{Plan}
 use Rattle.dc_code.specs.Codes.{CodeLists}
 use Rattle.dc_code.specs.CodeForms.{form_in}
-use Rattle.dc_code.specs.Combinations.{Span}
 use Rattle.dc_code.specs.Computation.{Reached, done, bad, paused, Run, over}
 use Rattle.dc_code.specs.Frames.{Frame, with_stack}
 use Rattle.dc_code.specs.Machine.{machine, new_frame}

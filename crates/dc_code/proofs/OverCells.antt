@@ -1,10 +1,9 @@
 -- Cells of every form run alike: they hold their entries, and end as over the store that they show.
-use Rattle.std.proofs.Common.{◌≡◌, List, [], ◌∷◌, Some, None, refl, sym, ap, ◌∙◌}
-use Rattle.std.specs.Prelude.{ℤ}
+use Rattle.std.proofs.Common.{◌≡◌, refl, ap, ◌∙◌}
 use Rattle.dc_int.specs.Entries.{Entry, Reads, Defines, Undefines, Contributes, store_after_entry}
 use Rattle.dc_int.specs.Store.{Store, value_at, bounds_of}
 use Rattle.dc_code.specs.Computation.{Computation, give, fail, read, define, undefine, contribute, ask, pause, over}
-use Rattle.dc_code.specs.OverCells.{CellsRun, over_cells, after_entries}
+use Rattle.dc_code.specs.OverCells.{over_cells, after_entries}
 
 pub over-any : {M E T A : Type 0} (shown : M → Store) (after : Entry → M → M)
     → ((entry : Entry) (held : M) → shown (after entry held) ≡ store_after_entry entry (shown held))

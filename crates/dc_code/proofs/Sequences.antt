@@ -1,5 +1,5 @@
 -- First this, then that: in turn, and by what holds of the results.
-use Rattle.std.proofs.Common.{◌≡◌, ℕ, Option, refl, ap}
+use Rattle.std.proofs.Common.{◌≡◌, Option, refl, ap}
 use Rattle.std.specs.Prelude.{ℤ}
 use Rattle.dc_int.specs.Store.{Bounds}
 use Rattle.dc_code.specs.Computation.{Computation, give, fail, read, define, undefine, contribute, ask, pause, sequence}

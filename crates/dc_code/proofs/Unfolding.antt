@@ -1,18 +1,16 @@
 -- The machine carries out one instruction, and then goes on as the machine.
-use Rattle.std.proofs.Common.{◌≡◌, ◌<◌, ◌≤◌, ℕ, zero, suc, ◌+◌, ◌-◌, ◌*◌, Bool, true, false, cond, List, [], ◌∷◌, ◌++◌, length, Option, Some, None, refl, sym, ap, ◌∙◌, subst, arith, rules}
+use Rattle.std.proofs.Common.{◌≡◌, ◌<◌, ◌≤◌, ℕ, zero, suc, ◌+◌, ◌-◌, ◌*◌, Bool, true, false, List, [], ◌∷◌, ◌++◌, length, Option, Some, None, refl, sym, ap, ◌∙◌, subst, arith}
 use Rattle.std.proofs.lemmas.Bool.{ltb-true}
 use Rattle.std.proofs.lemmas.List.{length-take}
 use Rattle.std.proofs.lemmas.Option.{none-some}
-use Rattle.std.specs.Prelude.{ℤ, pos, map, is_some, Ok, Err, min, take, nat_lt, slice_get, if◌then◌else◌}
-use Rattle.dc_int.specs.declared.access.ElementId.{ElementId}
+use Rattle.std.specs.Prelude.{ℤ, pos, map, is_some, min, take, nat_lt, slice_get, if◌then◌else◌}
 use Rattle.dc_int.specs.declared.kind.Kind.{Kind}
 use Rattle.dc_int.specs.declared.operation.Op.{Op}
 use Rattle.dc_int.specs.declared.operation.ReduceOp.{ReduceOp}
 use Rattle.dc_int.specs.declared.variable.Shape.{Shape}
-use Rattle.dc_int.specs.declared.operation.OpFault.{OpFault}
-use Rattle.dc_int.specs.Operations.{Outcome, applied}
+use Rattle.dc_int.specs.Operations.{applied}
 use Rattle.dc_int.specs.Reductions.{truth}
-use Rattle.dc_int.specs.Sorts.{Sort, whole, logical, sort_with}
+use Rattle.dc_int.specs.Sorts.{Sort, whole, logical}
 use Rattle.dc_int.specs.Store.{Bounds, changed_at, position_in}
 use Rattle.dc_code.specs.declared.frame.Item.{Item}
 use Rattle.dc_code.specs.declared.frame.Passed.{Passed}
@@ -25,12 +23,12 @@ use Rattle.dc_code.specs.declared.plan.Group.{Group}
 use Rattle.dc_code.specs.declared.plan.Passing.{Passing}
 use Rattle.dc_code.specs.Codes.{CodeLists, element, elements_of_variable, plan_numbered}
 use Rattle.dc_code.specs.Combinations.{natural}
-use Rattle.dc_code.specs.Computation.{give, fail, read, define, undefine, contribute, ask, pause, sequence, ◌>>=◌}
-use Rattle.dc_code.specs.Frames.{UnitFrame, Frame, pushed, fresh_unit, entered, slot_put, with_units, with_line, put, put_each, level, innermost, innermost_changed, left_unit}
-use Rattle.dc_code.specs.Instructions.{Going, act, behind, ahead, called, returned, passed_to, deepened, takes_one, arithmetic, computed, settled, of_one, of_two, merged, spent, folding_pushed, slot_folding_pushed, contributed, contributed_as, rounds_of, counted, result_pushed, value_put, text_put, all_put, forgotten_out, all_forgotten_out, sort_of_variable}
+use Rattle.dc_code.specs.Computation.{give, fail, read, define, undefine, contribute, ask, pause, ◌>>=◌}
+use Rattle.dc_code.specs.Frames.{UnitFrame, Frame, pushed, fresh_unit, entered, with_units, with_line, put, put_each, level, innermost, innermost_changed, left_unit}
+use Rattle.dc_code.specs.Instructions.{Going, act, behind, ahead, called, returned, passed_to, deepened, takes_one, computed, settled, of_one, of_two, merged, spent, folding_pushed, slot_folding_pushed, contributed, contributed_as, rounds_of, counted, result_pushed, value_put, text_put, all_put, forgotten_out, all_forgotten_out, sort_of_variable}
 use Rattle.dc_code.specs.Machine.{fetched, steps, bound, machine}
 use Rattle.dc_code.specs.Operands.{item_off, top_off, value_off, as_value, position_off, as_position, items_off, values_off, required}
-use Rattle.dc_code.specs.Reaching.{place_read, place_defined, place_forgotten, element_read, outer_place, slot_place, loaded, stored, forgotten, positioned, within_bounds, sort_of_shape, element_sort, element_defined, dummy_place, dummy_loaded, dummy_stored, place_pushed, filled, slots_filled, all_read, all_defined, all_required, group_slots, group_planned, group_bounds, dummy}
+use Rattle.dc_code.specs.Reaching.{place_read, place_defined, place_forgotten, outer_place, slot_place, loaded, stored, forgotten, positioned, within_bounds, sort_of_shape, element_sort, element_defined, dummy_place, dummy_loaded, dummy_stored, place_pushed, filled, slots_filled, all_read, all_defined, all_required, group_slots, dummy}
 use Rattle.dc_code.specs.Troubles.{Computing, write_line, take_value, take_elements, end_reading, enter_loop, stop}
 use Rattle.dc_lists.specs.Output.{written}
 use Rattle.dc_code.proofs.Sequences.{Gives, gives-then, same-then}

@@ -1,6 +1,6 @@
 -- A loop as its code gives it: its header, its mask and its body by the machine. This project's own, on ISO/IEC
 -- 1539-1:2023, clause 11.1.7.4.
-use Rattle.std.specs.Prelude.{ℕ, zero, suc, Bool, true, false, List, [], ◌∷◌, ◌++◌, map, length, take, drop, replicate, reverse, flat_map, slice_get, Option, Some, None, if◌then◌else◌, ℤ, pos}
+use Rattle.std.specs.Prelude.{ℕ, Bool, true, false, List, [], ◌∷◌, ◌++◌, map, length, take, drop, replicate, reverse, flat_map, slice_get, Option, Some, None, if◌then◌else◌, ℤ, pos}
 use Rattle.std.specs.List.{range_with_len}
 use Rattle.dc_int.specs.declared.access.ElementId.{ElementId}
 use Rattle.dc_int.specs.declared.kind.Kind.{Kind}
@@ -8,15 +8,11 @@ use Rattle.dc_int.specs.declared.variable.Locality.{Locality}
 use Rattle.dc_int.specs.declared.variable.Shape.{Shape}
 use Rattle.dc_int.specs.Reductions.{truth}
 use Rattle.dc_code.specs.declared.frame.Item.{Item}
-use Rattle.dc_code.specs.declared.frame.Passed.{Passed}
-use Rattle.dc_code.specs.declared.frame.Place.{Place}
 use Rattle.dc_code.specs.declared.plan.ConstructCode.{ConstructCode}
-use Rattle.dc_code.specs.declared.plan.Group.{Group}
-use Rattle.dc_code.specs.Closing.{Localities}
 use Rattle.dc_code.specs.Codes.{CodeLists, elements_of_variable, elements_of_shape}
 use Rattle.dc_code.specs.Combinations.{Span}
 use Rattle.dc_code.specs.Computation.{give, sequence}
-use Rattle.dc_code.specs.Frames.{UnitFrame, Frame, with_slots, innermost_changed}
+use Rattle.dc_code.specs.Frames.{Frame, with_slots, innermost_changed}
 use Rattle.dc_code.specs.Inner.{Forms}
 use Rattle.dc_code.specs.Loops.{Form, Copies}
 use Rattle.dc_code.specs.Machine.{machine, new_frame}

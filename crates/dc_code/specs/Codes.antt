@@ -2,7 +2,6 @@
 use Rattle.std.specs.Prelude.{ℕ, suc, Bool, ◌&&◌, nat_eq, nat_le, List, [], ◌∷◌, ◌++◌, map, flat_map, replicate, slice_get, Option, Some, None, if◌then◌else◌, ℤ}
 use Rattle.std.specs.List.{range_with_len, list_all}
 use Rattle.dc_int.specs.declared.access.ElementId.{ElementId}
-use Rattle.dc_int.specs.declared.kind.Kind.{Kind}
 use Rattle.dc_int.specs.declared.variable.Shape.{Shape}
 use Rattle.dc_int.specs.Store.{Bounds, elements_in}
 use Rattle.dc_code.specs.declared.instr.Instr.{Instr}

@@ -1,6 +1,6 @@
 -- The frames of program units that are being executed. This project's own, on ISO/IEC 1539-1:2023, clauses
 -- 15.5.2 and 15.6.
-use Rattle.std.specs.Prelude.{ℕ, ◌-◌, Bool, true, false, not, List, [], ◌∷◌, ◌++◌, length, take, slice_get, slice_set, Option, Some, None, option_and_then, ℤ}
+use Rattle.std.specs.Prelude.{ℕ, ◌-◌, Bool, true, not, List, [], ◌∷◌, ◌++◌, length, take, slice_get, slice_set, Option, Some, None, option_and_then, ℤ}
 use Rattle.dc_int.specs.Store.{changed_at, number_in}
 use Rattle.dc_code.specs.declared.frame.Item.{Item}
 use Rattle.dc_code.specs.declared.frame.Passed.{Passed}

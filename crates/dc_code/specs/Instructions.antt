@@ -16,7 +16,6 @@ use Rattle.dc_int.specs.Reductions.{truth, number_of_truth, conjunction, disjunc
 use Rattle.dc_int.specs.Sorts.{Sort, whole, logical, fitted}
 use Rattle.dc_code.specs.declared.frame.Item.{Item}
 use Rattle.dc_code.specs.declared.frame.Passed.{Passed}
-use Rattle.dc_code.specs.declared.frame.Place.{Place}
 use Rattle.dc_code.specs.declared.instr.Folding.{Folding}
 use Rattle.dc_code.specs.declared.instr.Relation.{Relation}
 use Rattle.dc_code.specs.declared.instr.What.{What}

@@ -1,12 +1,10 @@
 -- The machine: a run of a code from a place, as a computation. This project's own.
-use Rattle.std.specs.Prelude.{ℕ, zero, suc, ◌+◌, ◌-◌, ◌*◌, false, List, [], ◌∷◌, length, slice_get, Option, Some, None}
+use Rattle.std.specs.Prelude.{ℕ, zero, suc, ◌+◌, ◌-◌, ◌*◌, false, [], ◌∷◌, length, slice_get, Option, Some, None}
 use Rattle.dc_code.specs.declared.instr.Instr.{Instr}
 use Rattle.dc_code.specs.Codes.{CodeLists, plan_at}
-use Rattle.dc_code.specs.Computation.{Computation}
 use Rattle.dc_code.specs.Frames.{Frame, fresh_unit}
 use Rattle.dc_code.specs.Instructions.{Going, act}
 use Rattle.dc_code.specs.Operands.{stuck}
-use Rattle.dc_code.specs.Troubles.{Computing}
 
 -- The instruction at a place is carried out, and what goes on behind it.
 abbrev pub fetched : CodeLists → Going → Option Instr → Going

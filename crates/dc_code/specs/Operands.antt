@@ -3,8 +3,6 @@ use Rattle.std.specs.Prelude.{ℕ, zero, suc, List, [], ◌∷◌, ◌++◌, Opt
 use Rattle.dc_int.specs.declared.fault.FaultKind.{FaultKind}
 use Rattle.dc_int.specs.declared.fault.Why.{Why}
 use Rattle.dc_code.specs.declared.frame.Item.{Item}
-use Rattle.dc_code.specs.declared.frame.Passed.{Passed}
-use Rattle.dc_code.specs.declared.frame.Place.{Place}
 use Rattle.dc_code.specs.Computation.{give, fail, ◌>>=◌}
 use Rattle.dc_code.specs.Frames.{Frame, with_stack}
 use Rattle.dc_code.specs.Troubles.{Computing}

@@ -1,5 +1,5 @@
 -- What a computation does over cells of any form, which show a store. This project's own.
-use Rattle.std.specs.Prelude.{List, [], ◌∷◌, ℤ, Some, None}
+use Rattle.std.specs.Prelude.{List, [], ◌∷◌}
 use Rattle.dc_int.specs.Entries.{Entry, Reads, Defines, Undefines, Contributes}
 use Rattle.dc_int.specs.Store.{Store, value_at, bounds_of}
 use Rattle.dc_code.specs.Computation.{Computation, give, fail, read, define, undefine, contribute, ask, pause, Reached, done, bad, paused}

@@ -1,6 +1,6 @@
 -- What instructions do to variables, slots and dummies. After ISO/IEC 1539-1:2023, clauses 9.5.3, 10.2.1 and
 -- 15.5.2; the order of what is taken off is this project's own.
-use Rattle.std.specs.Prelude.{ℕ, zero, suc, Bool, true, false, ◌&&◌, nat_lt, List, [], ◌∷◌, map, length, slice_get, slice_set, is_some, Option, Some, None, if◌then◌else◌, ℤ}
+use Rattle.std.specs.Prelude.{ℕ, nat_lt, List, [], ◌∷◌, map, length, slice_get, slice_set, is_some, Option, Some, None, if◌then◌else◌, ℤ}
 use Rattle.dc_int.specs.declared.access.ElementId.{ElementId}
 use Rattle.dc_int.specs.declared.fault.FaultKind.{FaultKind}
 use Rattle.dc_int.specs.declared.variable.Shape.{Shape}

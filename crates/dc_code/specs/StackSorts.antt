@@ -1,12 +1,10 @@
 -- What an instruction asks of the stack, and what it leaves, by the sorts of the items. This project's own.
-use Rattle.std.specs.Prelude.{ℕ, zero, suc, ◌-◌, Bool, true, false, ◌&&◌, not, nat_eq, nat_le, nat_lt, List, [], ◌∷◌, length, is_some, slice_get, Option, Some, None, option_and_then, option_map, if◌then◌else◌, ℤ}
+use Rattle.std.specs.Prelude.{ℕ, zero, suc, ◌-◌, Bool, true, false, ◌&&◌, not, nat_eq, nat_le, nat_lt, List, [], ◌∷◌, length, slice_get, Option, Some, None, option_and_then, option_map, if◌then◌else◌, ℤ}
 use Rattle.dc_int.specs.declared.kind.Kind.{Kind}
 use Rattle.dc_int.specs.declared.operation.Op.{Op}
-use Rattle.dc_int.specs.declared.operation.ReduceOp.{ReduceOp}
 use Rattle.dc_int.specs.declared.variable.Shape.{Shape}
 use Rattle.dc_int.specs.Kinds.{bits_of, is_of_kind}
 use Rattle.dc_int.specs.Operations.{takes_place}
-use Rattle.dc_int.specs.Reductions.{is_logical}
 use Rattle.dc_code.specs.declared.instr.Folding.{Folding}
 use Rattle.dc_code.specs.declared.instr.What.{What}
 use Rattle.dc_code.specs.declared.plan.DummyPlan.{DummyPlan}

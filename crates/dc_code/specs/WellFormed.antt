@@ -1,22 +1,20 @@
 -- Which codes are well formed: one sentence a condition. This project's own.
-use Rattle.std.specs.Prelude.{◌≡◌, ◌≤◌, ◌<◌, ℕ, zero, suc, ◌+◌, ◌-◌, ◌*◌, Bool, true, false, ◌&&◌, ◌||◌, not, nat_eq, nat_le, nat_lt, List, [], ◌∷◌, ◌++◌, map, filter, filter_map, flat_map, length, min, take, drop, zip, slice_get, is_some, Option, Some, None, option_and_then, option_map, IsTrue, if◌then◌else◌, ℤ}
-use Rattle.std.specs.List.{list_all, list_any, range_with_len}
+use Rattle.std.specs.Prelude.{◌≡◌, ◌≤◌, ◌<◌, ℕ, suc, ◌-◌, Bool, true, false, ◌&&◌, not, nat_eq, nat_le, nat_lt, List, [], ◌∷◌, ◌++◌, map, flat_map, length, min, take, drop, zip, slice_get, Option, Some, None, option_map, IsTrue, if◌then◌else◌}
+use Rattle.std.specs.List.{list_all, list_any}
 use Rattle.dc_int.specs.declared.kind.Kind.{Kind}
 use Rattle.dc_int.specs.declared.operation.ReduceOp.{ReduceOp}
 use Rattle.dc_int.specs.declared.variable.Locality.{Locality}
 use Rattle.dc_int.specs.declared.variable.Shape.{Shape}
-use Rattle.dc_int.specs.Kinds.{bits_of}
 use Rattle.dc_int.specs.Reductions.{is_logical}
 use Rattle.dc_int.specs.Store.{Bounds, elements_in}
 use Rattle.dc_code.specs.declared.instr.Instr.{Instr}
 use Rattle.dc_code.specs.declared.instr.What.{What}
 use Rattle.dc_code.specs.declared.plan.ConstructCode.{ConstructCode}
-use Rattle.dc_code.specs.declared.plan.DummyPlan.{DummyPlan}
 use Rattle.dc_code.specs.declared.plan.Group.{Group}
 use Rattle.dc_code.specs.declared.plan.Plan.{Plan}
 use Rattle.dc_code.specs.Codes.{CodeLists, are_small, starts}
 use Rattle.dc_code.specs.CodeForms.{locality_in}
-use Rattle.dc_code.specs.StackSorts.{Sorts, number, a_truth, same_sorts, same_kind, same_flag, sorts_after}
+use Rattle.dc_code.specs.StackSorts.{Sorts, number, a_truth, same_kind, same_flag, sorts_after}
 
 -- ---- parts
 
