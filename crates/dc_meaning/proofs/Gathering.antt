@@ -1,10 +1,11 @@
 -- Results that are gathered item by item.
 use Rattle.std.proofs.Common.{◌≡◌, ℕ, suc, ◌+◌, ◌-◌, ◌<◌, List, [], ◌∷◌, ◌++◌, map, length, drop, get_or, refl, sym, ap, ◌∙◌, arith, append_assoc, append-nil, drop-cons}
 use Rattle.std.specs.Prelude.{Result, Ok, Err}
+use Rattle.dc_code.specs.declared.frame.Place.{Place}
 use Rattle.dc_code.specs.Troubles.{Slots}
 use Rattle.dc_plain.specs.Views.{View}
 use Rattle.dc_meaning.specs.declared.stop.Stop.{Stop}
-use Rattle.dc_meaning.specs.Acts.{Act, outer, just, ◌>>=◌, for_each}
+use Rattle.dc_meaning.specs.Acts.{Act, just, ◌>>=◌, for_each}
 use Rattle.dc_meaning.specs.Gathering.{gathered, places_from}
 use Rattle.dc_meaning.specs.Values.{Callee}
 use Rattle.dc_meaning.specs.Walking.{Stays}
@@ -65,7 +66,7 @@ module _ {A B C : Type 0} {tell : C → B} {tells : List C → List B} (telling 
 
 -- ---- of the elements of a variable
 
-pub places-step : (variable count position : ℕ) → places_from variable (suc count) position ≡ outer (record { variable = variable; position = position }) ∷ places_from variable count (position + 1)
+pub places-step : (variable count position : ℕ) → places_from variable (suc count) position ≡ Place.Outer (record { variable = variable; position = position }) ∷ places_from variable count (position + 1)
 places-step variable count position = refl
 
 pub count-step : (size position : ℕ) → position < size → size - position ≡ suc (size - (position + 1))

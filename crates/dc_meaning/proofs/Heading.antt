@@ -9,6 +9,7 @@ use Rattle.dc_code.specs.Combinations.{Span, values_of, combinations}
 use Rattle.dc_code.specs.Computation.{give, fail, read, define, undefine, contribute, ask, pause, sequence, ◌>>=◌, Reached, done, bad, paused, over}
 use Rattle.dc_code.specs.Loops.{Form, HeaderComputing, HeaderResult, header_of, in_header, active, begun, combined_values, are_too_many, header_fault}
 use Rattle.dc_code.specs.Troubles.{Failure, Trouble, ended, Computing, Event, in_statement}
+use Rattle.dc_code.proofs.Sequences.{sequence-then}
 use Rattle.dc_entities.proofs.Spans.{combinations-one}
 use Rattle.dc_plain.specs.Views.{View}
 use Rattle.dc_tree.specs.declared.symbols.Symbol.{Symbol}
@@ -32,7 +33,7 @@ use Rattle.dc_meaning.proofs.Doing.{Any, reading, only-stays}
 use Rattle.dc_meaning.proofs.Looping.{BuiltLoop, concurrent-with, copies-form, combines-form, whole-sort}
 use Rattle.dc_meaning.proofs.Own.{Own, OwnEntity, both-own, just-own, wrong-own}
 use Rattle.dc_meaning.proofs.OwnValues.{value-own}
-use Rattle.dc_meaning.proofs.Walking.{seen-run, sequence-then}
+use Rattle.dc_meaning.proofs.Walking.{seen-run}
 
 -- ---- what the limits do
 

@@ -8,12 +8,13 @@ use Rattle.dc_int.specs.declared.operation.OpFault.{OpFault}
 use Rattle.dc_int.specs.Operations.{Outcome}
 use Rattle.dc_int.specs.Sorts.{Sort, fitted}
 use Rattle.dc_int.specs.Store.{Bounds, elements_in, position_in}
+use Rattle.dc_code.specs.declared.frame.Place.{Place}
 use Rattle.dc_code.specs.Computation.{give}
 use Rattle.dc_code.specs.Troubles.{Slots}
 use Rattle.dc_tree.specs.Entities.{Entity, outside, slots, dummy, constant, function, subroutine, reduction, nothing}
 use Rattle.dc_tree.specs.Typing.{sort_of_entity}
 use Rattle.dc_meaning.specs.Acts as acts
-use Rattle.dc_meaning.specs.Acts.{Place, outer, in_frame, State, Act, ◌>>=◌, just, wrong, for_each, load, required, refer_to}
+use Rattle.dc_meaning.specs.Acts.{State, Act, ◌>>=◌, just, wrong, for_each, load, required, refer_to}
 use Rattle.dc_meaning.specs.Headers.{inside_frame}
 use Rattle.dc_meaning.specs.Places.{bounds_of_entity, position_at, place_of, element_at, whole_of, whole_values, value_at_entity}
 use Rattle.dc_meaning.specs.Values.{settled}
@@ -26,8 +27,8 @@ pub record Own {A : Type 0} (may : May) (Q : A → Type 0) (act : Act A) : Type 
 -- ---- places and entities
 
 abbrev pub OwnPlace : (ElementId → Type 0) → Place → Type 0
-OwnPlace P (outer x) = P x
-OwnPlace P (in_frame frame group position) = Unit {0}
+OwnPlace P (Place.Outer x) = P x
+OwnPlace P (Place.InFrame frame group position) = Unit {0}
 
 abbrev pub Each : {A : Type 0} → (A → Type 0) → List A → Type 0
 Each Q [] = Unit {0}
@@ -105,12 +106,12 @@ module _ (may : May) where
   -- ---- places
 
   pub load-own : (line : ℕ) (place : Place) → OwnPlace may.access place → Own may Any (load line place)
-  load-own line (outer x) own = record { holds = λ state. (own, λ read. tt) }
-  load-own line (in_frame frame group position) own = record { holds = λ state. tt }
+  load-own line (Place.Outer x) own = record { holds = λ state. (own, λ read. tt) }
+  load-own line (Place.InFrame frame group position) own = record { holds = λ state. tt }
 
   pub store-own : (line : ℕ) (place : Place) (z : ℤ) → OwnPlace (λ x. may.access x × may.leave x (Some z)) place → Own may Any (acts.store line place z)
-  store-own line (outer x) z own = record { holds = λ state. (own.0, own.1, tt) }
-  store-own line (in_frame frame group position) z own = record { holds = λ state. tt }
+  store-own line (Place.Outer x) z own = record { holds = λ state. (own.0, own.1, tt) }
+  store-own line (Place.InFrame frame group position) z own = record { holds = λ state. tt }
 
   pub required-own : (line : ℕ) (given : Option ℤ) → Own may Any (required line given)
   required-own line (Some z) = just-own z tt
@@ -127,7 +128,7 @@ module _ (may : May) where
       by None is = rw is (wrong-own FaultKind.Subscript line)
 
   pub place-own : (P : ElementId → Type 0) (line : ℕ) (e : Entity) (position : ℕ) → OwnEntity P e → position < elements_in (bounds_of_entity e) → Own may (OwnPlace P) (place_of line e position)
-  place-own P line (outside variable sort bounds) position own below = just-own (outer (record { variable = variable; position = position })) (own position below)
+  place-own P line (outside variable sort bounds) position own below = just-own (Place.Outer (record { variable = variable; position = position })) (own position below)
   place-own P line (slots group sort bounds) position own below = record { holds = λ state. tt }
   place-own P line (constant sort z) position own below = wrong-own FaultKind.Undefined line
   place-own P line nothing position own below = wrong-own FaultKind.Undefined line

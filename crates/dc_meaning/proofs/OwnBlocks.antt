@@ -5,7 +5,8 @@ use Rattle.std.proofs.lemmas.Bool.{and_parts}
 use Rattle.std.specs.Prelude.{ℤ, if◌then◌else◌}
 use Rattle.dc_int.specs.declared.access.ElementId.{ElementId}
 use Rattle.dc_int.specs.Sorts.{Sort, fitted}
-use Rattle.dc_code.specs.Troubles.{Slots, write_line, enter_loop, Piece}
+use Rattle.dc_code.specs.declared.frame.Place.{Place}
+use Rattle.dc_code.specs.Troubles.{Slots, write_line, enter_loop}
 use Rattle.dc_tree.specs.Blocks as blocks
 use Rattle.dc_tree.specs.Blocks.{Items, none, and_then, plain, branch, select}
 use Rattle.dc_tree.specs.BuiltPrograms.{is_built_assignment, is_built_deed, is_built_inside, is_built_block, is_built_line, is_built_loop, are_built_items}
@@ -15,7 +16,7 @@ use Rattle.dc_tree.specs.Statements.{Name, Target, Deed, Statement}
 use Rattle.dc_tree.specs.Syntax.{Tree, number, truth, chars, name, refer, paren, unary, binary}
 use Rattle.dc_tree.specs.Typing.{sort_of, sort_of_entity}
 use Rattle.dc_meaning.specs.Acts as acts
-use Rattle.dc_meaning.specs.Acts.{Place, outer, in_frame, Act, ◌>>=◌, just}
+use Rattle.dc_meaning.specs.Acts.{Act, ◌>>=◌, just}
 use Rattle.dc_meaning.specs.Actions as actions
 use Rattle.dc_meaning.specs.Actions.{Flow, on, returns, cycles, exits, ◌>>◌, places_of, assignment, filling, is_array, piece, pieces, named_pieces, paused_for, printing}
 use Rattle.dc_meaning.specs.Execution.{plain_line, loop_of, concurrent_do, loops_in, exec_all, behind_item}
@@ -38,8 +39,8 @@ module _ (may : May) (scope : Scope) (own : (text : Name) → OwnTarget may (ent
       (λ given any. both-own may {Q = OwnPlace P} (element-own may P line e given own) (λ place ready. just-own may (place ∷ []) (ready, tt)))
 
   taken : (sort : Sort) (given : ℤ) (place : Place) → OwnPlace (Takes may sort) place → OwnPlace (λ x. may.access x × may.leave x (Some (fitted sort given))) place
-  taken sort given (outer x) takes = (takes.0, takes.1 given)
-  taken sort given (in_frame frame group position) takes = tt
+  taken sort given (Place.Outer x) takes = (takes.0, takes.1 given)
+  taken sort given (Place.InFrame frame group position) takes = tt
 
   fit-own : (line : ℕ) (sort : Sort) (given : ℤ) (place : Place) → OwnPlace (Takes may sort) place → Own may Any (acts.store line place (fitted sort given))
   fit-own line sort given place takes = store-own may line place (fitted sort given) (taken sort given place takes)
@@ -134,7 +135,7 @@ module _ (may : May) (scope : Scope) (own : (text : Name) → OwnTarget may (ent
       by (binary mark left right) = single (binary mark left right)
 
   -- where lines may be written
-  module _ (writes : (line : ℕ) (written : List Piece) → may.pause_at (write_line line written)) where
+  module _ (writes : (line : ℕ) (bytes : List ℕ) → may.pause_at (write_line line bytes)) where
     pub printing-own : (line : ℕ) (trees : List Tree) → Own may Any (printing scope call line trees)
     printing-own line trees =
         both-own may {Q = Each Any} (each-own may {Q = Any} {R = Any} (pieces scope call line) (λ t any. pieces-own line t) trees (any-each trees))

@@ -4,7 +4,7 @@ use Rattle.std.proofs.lemmas.Bool.{and_parts}
 use Rattle.std.specs.Prelude.{ℤ, nat_eq, nat_le, length, bytes_eq, slice_get, filter, if◌then◌else◌}
 use Rattle.std.specs.List.{list_all}
 use Rattle.dc_int.specs.Sorts.{Sort, sort_with}
-use Rattle.dc_code.specs.Troubles.{Piece, Slots, write_line, enter_loop}
+use Rattle.dc_code.specs.Troubles.{Slots, write_line, enter_loop}
 use Rattle.dc_tree.specs.declared.symbols.Role.{Role}
 use Rattle.dc_tree.specs.declared.symbols.Symbol.{Symbol}
 use Rattle.dc_tree.specs.Blocks.{Source}
@@ -96,7 +96,7 @@ scope-own may symbols built variables text = scope-good (OwnTarget may) symbols 
 -- What the main program does is only what it may, where lines may be written and loops entered.
 pub main-own : (may : May) (symbols : List Symbol) (source : Source) (turns : ℕ) → are_built_items (main_scope symbols) source.body ≡ true
     → ((text : Name) → OwnTarget may (entity (main_scope symbols) text))
-    → ((line : ℕ) (written : List Piece) → may.pause_at (write_line line written)) → ((number turns : ℕ) (around : Slots) → may.pause_at (enter_loop number turns around))
+    → ((line : ℕ) (bytes : List ℕ) → may.pause_at (write_line line bytes)) → ((number turns : ℕ) (around : Slots) → may.pause_at (enter_loop number turns around))
     → Only may Any (main_computation symbols source turns)
 main-own may symbols source turns body own writes enters =
     let scope = main_scope symbols in

@@ -6,11 +6,12 @@ use Rattle.dc_int.specs.declared.kind.Kind.{Kind}
 use Rattle.dc_int.specs.Entries.{Reads}
 use Rattle.dc_int.specs.Sorts.{Sort, whole}
 use Rattle.dc_int.specs.Store.{Bounds, value_at, elements_in}
+use Rattle.dc_code.specs.declared.frame.Place.{Place}
 use Rattle.dc_code.specs.Troubles.{Slots}
 use Rattle.dc_plain.specs.Views.{View, noted}
 use Rattle.dc_tree.specs.Entities.{outside, slots}
 use Rattle.dc_meaning.specs.declared.stop.Stop.{Stop}
-use Rattle.dc_meaning.specs.Acts.{outer, just, ◌>>=◌, load, required, refer_to, for_each}
+use Rattle.dc_meaning.specs.Acts.{just, ◌>>=◌, load, required, refer_to, for_each}
 use Rattle.dc_meaning.specs.Concurrent.{index_slots}
 use Rattle.dc_meaning.specs.Gathering.{gathered, places_from}
 use Rattle.dc_meaning.specs.Places.{element_at, value_at_entity, whole_values}
@@ -20,25 +21,25 @@ use Rattle.dc_meaning.proofs.Gathering.{gathered-all}
 use Rattle.dc_meaning.proofs.Storing.{whole-places}
 use Rattle.dc_meaning.proofs.Walking.{stays-then, stays-bad, stays-as}
 
-load-one : {own : Slots} (view : View) (line : ℕ) (x : ElementId) → Stays (λ s. s) own view (λ call. load line (outer x)) (noted (Reads x line) view) (Ok (value_at view.store x))
+load-one : {own : Slots} (view : View) (line : ℕ) (x : ElementId) → Stays (λ s. s) own view (λ call. load line (Place.Outer x)) (noted (Reads x line) view) (Ok (value_at view.store x))
 load-one view line x = record { each = λ turns. record { answers = λ call. refl } }
 
 -- An element is read, and has to be there.
 pub read-walks : {own : Slots} {view after : View} {r : Result ℤ Stop} (line : ℕ) (x : ElementId) (state : Option ℤ) → state ≡ value_at view.store x → after ≡ noted (Reads x line) view
-    → Stays (λ z. z) own after (λ call. required line state) after r → Stays (λ z. z) own view (λ call. refer_to line (outer x)) after r
+    → Stays (λ z. z) own after (λ call. required line state) after r → Stays (λ z. z) own view (λ call. refer_to line (Place.Outer x)) after r
 read-walks {own = own} {view = view} {after = after} {r = r} line x state is noted-is walks =
-    stays-then (λ call s. required line s) (subst (λ v. Stays (λ s. s) own view (λ call. load line (outer x)) v (Ok (value_at view.store x))) (sym noted-is) (load-one view line x))
+    stays-then (λ call s. required line s) (subst (λ v. Stays (λ s. s) own view (λ call. load line (Place.Outer x)) v (Ok (value_at view.store x))) (sym noted-is) (load-one view line x))
     (stays-as (λ call. ap (required line) (sym is)) walks)
 
 -- the element of a variable
 pub outside-walks : {own : Slots} {view after : View} {r : Result ℤ Stop} (line variable : ℕ) (sort : Sort) (bounds : Bounds) (subscripts : List ℤ) (x : ElementId)
-    → Stays outer own view (λ call. element_at line (outside variable sort bounds) subscripts) view (Ok x)
-    → Stays (λ z. z) own view (λ call. refer_to line (outer x)) after r
+    → Stays Place.Outer own view (λ call. element_at line (outside variable sort bounds) subscripts) view (Ok x)
+    → Stays (λ z. z) own view (λ call. refer_to line (Place.Outer x)) after r
     → Stays (λ z. z) own view (λ call. value_at_entity line (outside variable sort bounds) subscripts) after r
 outside-walks line variable sort bounds subscripts x first second = stays-then (λ call. refer_to line) first second
 
 pub outside-bad : {own : Slots} {view : View} {e : Stop} (line variable : ℕ) (sort : Sort) (bounds : Bounds) (subscripts : List ℤ)
-    → Stays outer own view (λ call. element_at line (outside variable sort bounds) subscripts) view (Err e)
+    → Stays Place.Outer own view (λ call. element_at line (outside variable sort bounds) subscripts) view (Err e)
     → Stays (λ (z : ℤ). z) own view (λ call. value_at_entity line (outside variable sort bounds) subscripts) view (Err e)
 outside-bad line variable sort bounds subscripts walks = stays-bad {A = ℤ} {tell = λ z. z} (λ call. refer_to line) walks
 

@@ -4,7 +4,6 @@ use Rattle.std.specs.Prelude.{Result, Ok, Err, ℤ, if◌then◌else◌, ◌==�
 use Rattle.std.specs.List.{list_all}
 use Rattle.std.proofs.lemmas.Bool.{and_parts}
 use Rattle.std.proofs.lemmas.List.{drop_all}
-use Rattle.dc_code.specs.Troubles as troubles
 use Rattle.dc_code.specs.Troubles.{Slots}
 use Rattle.dc_int.specs.Sorts.{Sort}
 use Rattle.dc_int.specs.Store.{Bounds}
@@ -26,6 +25,7 @@ use Rattle.dc_meaning.specs.declared.stop.Stop.{Stop}
 use Rattle.dc_meaning.specs.Acts.{Act, just, ◌>>=◌}
 use Rattle.dc_meaning.specs.Actions.{piece, pieces, named_pieces, is_array}
 use Rattle.dc_meaning.specs.Gathering.{gathered}
+use Rattle.dc_meaning.specs.OutputPieces as output_pieces
 use Rattle.dc_meaning.specs.Pieces.{piece_of}
 use Rattle.dc_meaning.specs.Places.{bounds_of_entity, value_at_entity, whole_values}
 use Rattle.dc_meaning.specs.Values.{Callee, refer_value, value}
@@ -50,7 +50,7 @@ module _ (items : List Expr) (at : ℕ) (item : Expr) (below : at < length items
     pub others-held : list_all is_held (map tree (drop (at + 1) items)) ≡ true
     others-held = both-held.1
 
-abbrev shown : Scope → ℕ → Callee → Tree → Act (List troubles.Piece)
+abbrev shown : Scope → ℕ → Callee → Tree → Act (List output_pieces.Piece)
 shown scope line call t = pieces scope call line t
 
 module _ (scope : Scope) (line : ℕ) {own : Slots} where
@@ -77,10 +77,10 @@ module _ (scope : Scope) (line : ℕ) {own : Slots} where
 -- ---- one item
 
 -- a value as its piece
-abbrev pub one_piece : Sort → ℤ → Act (List troubles.Piece)
+abbrev pub one_piece : Sort → ℤ → Act (List output_pieces.Piece)
 one_piece sort z = just (piece sort z ∷ [])
 
-abbrev pub all_of : Sort → List ℤ → Act (List troubles.Piece)
+abbrev pub all_of : Sort → List ℤ → Act (List output_pieces.Piece)
 all_of sort zs = just (map (piece sort) zs)
 
 named-by : (line : ℕ) (variable : Entity) (single : Act ℤ) (array : Bool) → is_array variable ≡ array
@@ -144,7 +144,7 @@ module _ (line : ℕ) (found : Found) where
 -- ---- an item by its form
 
 module _ (scope : Scope) (line : ℕ) where
-  pub text-walks : {own : Slots} {view : View} (item : Expr) (text : List ℕ) (made : List Piece) → item ≡ Chars text → map piece_of made ≡ troubles.text text ∷ []
+  pub text-walks : {own : Slots} {view : View} (item : Expr) (text : List ℕ) (made : List Piece) → item ≡ Chars text → map piece_of made ≡ output_pieces.text text ∷ []
       → Stays (map piece_of) own view (λ call. pieces scope call line (tree item)) view (Ok made)
   text-walks item text made is shows = stays-just made (λ call. ap (pieces scope call line) (ap tree is ∙ tree-Chars text) ∙ ap just (sym shows))
 
@@ -160,7 +160,7 @@ module _ (scope : Scope) (line : ℕ) where
       walks
 
   -- an item that is neither a literal nor a name
-  abbrev pub by_value : Callee → Tree → Act (List troubles.Piece)
+  abbrev pub by_value : Callee → Tree → Act (List output_pieces.Piece)
   by_value call t = value scope call line t >>= one_piece (sort_of scope t)
 
   pub value-walks : {own : Slots} {before after : View} (t : Tree) (form : Form) (given : ℤ) (made : List Piece) → ((call : Callee) → pieces scope call line t ≡ by_value call t) → sort_of_form form ≡ sort_of scope t

@@ -7,6 +7,7 @@ use Rattle.dc_int.specs.declared.access.ElementId.{ElementId}
 use Rattle.dc_int.specs.Entries.{Defines}
 use Rattle.dc_int.specs.Sorts.{Sort, fitted}
 use Rattle.dc_int.specs.Store.{Bounds, elements_in}
+use Rattle.dc_code.specs.declared.frame.Place.{Place}
 use Rattle.dc_code.specs.Troubles.{Slots}
 use Rattle.dc_plain.specs.Views.{View, noted}
 use Rattle.dc_tree.specs.declared.expr.Expr.{Expr}
@@ -17,7 +18,7 @@ use Rattle.dc_tree.specs.Syntax.{Tree, tree}
 use Rattle.dc_tree.specs.Typing.{sort_of_entity}
 use Rattle.dc_meaning.specs.declared.stop.Stop.{Stop}
 use Rattle.dc_meaning.specs.Acts as acts
-use Rattle.dc_meaning.specs.Acts.{Act, Place, outer, just, wrong, ◌>>=◌, for_each}
+use Rattle.dc_meaning.specs.Acts.{Act, just, wrong, ◌>>=◌, for_each}
 use Rattle.dc_meaning.specs.Actions.{Flow, on, ◌>>◌, assignment}
 use Rattle.dc_meaning.specs.Gathering.{places_from}
 use Rattle.dc_meaning.specs.Places.{whole_of, element_at}
@@ -38,7 +39,7 @@ is_reduced (reduction variable op sort bounds) = true
 is_reduced other = false
 
 -- an element is defined
-pub stored-one : {own : Slots} (view : View) (line : ℕ) (x : ElementId) (z : ℤ) → Stays (λ (done : Unit {0}). done) own view (λ call. acts.store line (outer x) z) (noted (Defines x z line) view) (Ok tt)
+pub stored-one : {own : Slots} (view : View) (line : ℕ) (x : ElementId) (z : ℤ) → Stays (λ (done : Unit {0}). done) own view (λ call. acts.store line (Place.Outer x) z) (noted (Defines x z line) view) (Ok tt)
 stored-one view line x z = record { each = λ turns. record { answers = λ call. refl } }
 
 -- nothing is left to be stored
@@ -50,15 +51,15 @@ on-just = stays-just tt (λ call. refl)
 
 -- an element is defined, and then what is left
 pub stored-then : {own : Slots} {view next after : View} {r : Result (Unit {0}) Stop} (line : ℕ) (x : ElementId) (z : ℤ) (rest : Callee → Act Flow) → next ≡ noted (Defines x z line) view
-    → Stays goes_on own next rest after r → Stays goes_on own view (λ call. acts.store line (outer x) z >>= (λ done. rest call)) after r
+    → Stays goes_on own next rest after r → Stays goes_on own view (λ call. acts.store line (Place.Outer x) z >>= (λ done. rest call)) after r
 stored-then {own = own} {view = view} {after = after} {r = r} line x z rest is walks =
     stays-then (λ call done. rest call) (stored-one view line x z) (subst (λ v. Stays goes_on own v rest after r) is walks)
 
 -- ---- element by element
 
-filled-step : (line variable : ℕ) (z : ℤ) (count position : ℕ) → filled line variable z (suc count) position ≡ (acts.store line (outer (at variable position)) z >>= (λ done. filled line variable z count (position + 1)))
+filled-step : (line variable : ℕ) (z : ℤ) (count position : ℕ) → filled line variable z (suc count) position ≡ (acts.store line (Place.Outer (at variable position)) z >>= (λ done. filled line variable z count (position + 1)))
 filled-step line variable z count position =
-    let first = acts.store line (outer (at variable position)) z in
+    let first = acts.store line (Place.Outer (at variable position)) z in
     let rest = for_each (λ place. acts.store line place z) (places_from variable count (position + 1)) in
     acts-then first (λ u. rest >>= (λ us. just (u ∷ us))) (λ done. just on)
     ∙ (λ i. first >>= (λ u. acts-then rest (λ us. just (u ∷ us)) (λ done. just on) i))
@@ -75,9 +76,9 @@ pub filled-none : {own : Slots} {view : View} (line variable : ℕ) (z : ℤ) (c
 filled-none line variable z count position none = stays-as (λ call. ap (λ n. filled line variable z n position) none) on-just
 
 listed-step : (line variable : ℕ) (sort : Sort) (count position : ℕ) (z : ℤ) (rest : List ℤ)
-    → listed line variable sort (suc count) position (z ∷ rest) ≡ (acts.store line (outer (at variable position)) (fitted sort z) >>= (λ done. listed line variable sort count (position + 1) rest))
+    → listed line variable sort (suc count) position (z ∷ rest) ≡ (acts.store line (Place.Outer (at variable position)) (fitted sort z) >>= (λ done. listed line variable sort count (position + 1) rest))
 listed-step line variable sort count position z rest =
-    let first = acts.store line (outer (at variable position)) (fitted sort z) in
+    let first = acts.store line (Place.Outer (at variable position)) (fitted sort z) in
     let others = for_each (λ (w : Place × ℤ). acts.store line w.0 (fitted sort w.1)) (zip (places_from variable count (position + 1)) rest) in
     acts-then first (λ u. others >>= (λ us. just (u ∷ us))) (λ done. just on)
     ∙ (λ i. first >>= (λ u. acts-then others (λ us. just (u ∷ us)) (λ done. just on) i))
@@ -118,7 +119,7 @@ for-each-just f [] = refl
 for-each-just f (a ∷ items) = ap (λ rest. rest >>= (λ bs. just (f a ∷ bs))) (for-each-just f items)
 
 pub whole-places : (line variable : ℕ) (sort : Sort) (bounds : Bounds) → whole_of line (outside variable sort bounds) ≡ just (places_from variable (elements_in bounds) 0)
-whole-places line variable sort bounds = for-each-just (λ p. outer (at variable p)) (range_with_len 0 (elements_in bounds))
+whole-places line variable sort bounds = for-each-just (λ p. Place.Outer (at variable p)) (range_with_len 0 (elements_in bounds))
 
 pub whole-assigned : (line variable : ℕ) (sort : Sort) (bounds : Bounds) (given : ℤ)
     → assigned_whole line (outside variable sort bounds) given ≡ filled line variable (fitted sort given) (elements_in bounds) 0
@@ -132,14 +133,14 @@ whole-listed line variable sort bounds given =
 -- ---- an element
 
 pub element-bad : {own : Slots} {view : View} {e : Stop} (line : ℕ) (variable : Entity) (subscripts : List ℤ) (given : ℤ)
-    → Stays outer own view (λ call. element_at line variable subscripts) view (Err e) → Stays goes_on own view (λ call. assigned_at line variable subscripts given) view (Err e)
+    → Stays Place.Outer own view (λ call. element_at line variable subscripts) view (Err e) → Stays goes_on own view (λ call. assigned_at line variable subscripts given) view (Err e)
 element-bad line variable subscripts given walks = stays-bad {A = Unit {0}} {tell = goes_on} (λ call place. stored line variable given (place ∷ [])) walks
 
 pub element-walks : {own : Slots} {view after : View} (line : ℕ) (variable : Entity) (subscripts : List ℤ) (given : ℤ) (x : ElementId) → after ≡ noted (Defines x (fitted (sort_of_entity variable) given) line) view
-    → Stays outer own view (λ call. element_at line variable subscripts) view (Ok x) → Stays goes_on own view (λ call. assigned_at line variable subscripts given) after (Ok tt)
+    → Stays Place.Outer own view (λ call. element_at line variable subscripts) view (Ok x) → Stays goes_on own view (λ call. assigned_at line variable subscripts given) after (Ok tt)
 element-walks {own = own} {view = view} line variable subscripts given x is first =
     stays-then (λ call place. stored line variable given (place ∷ [])) first
-    (subst (λ v. Stays goes_on own view (λ call. stored line variable given (outer x ∷ [])) v (Ok tt)) (sym is) (record { each = λ turns. record { answers = λ call. refl } }))
+    (subst (λ v. Stays goes_on own view (λ call. stored line variable given (Place.Outer x ∷ [])) v (Ok tt)) (sym is) (record { each = λ turns. record { answers = λ call. refl } }))
 
 -- ---- any target
 

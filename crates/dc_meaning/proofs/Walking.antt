@@ -8,6 +8,7 @@ use Rattle.dc_int.specs.Entries.{Entry, Reads, Defines, Undefines, Contributes}
 use Rattle.dc_int.specs.Store.{value_at, bounds_of}
 use Rattle.dc_code.specs.Computation.{Computation, give, fail, read, define, undefine, contribute, ask, pause, sequence, Reached, done, bad, paused, Run, over, behind_entries}
 use Rattle.dc_code.specs.Troubles.{Computing, Slots}
+use Rattle.dc_code.proofs.Sequences.{sequence-then}
 use Rattle.dc_meaning.specs.declared.stop.Stop.{Stop}
 use Rattle.dc_meaning.specs.Acts.{State, Act, ◌>>=◌, just, wrong}
 use Rattle.dc_meaning.specs.Values.{Callee}
@@ -146,17 +147,6 @@ told-bad {tell = tell} {own = own} {before = before} {after = after} {act = act}
     record { each = λ turns. record { answers = λ call. told-bad-at tell tell_too before (act call (state_in own turns)) (state_in own turns) after e ((walks.each turns).answers call) } }
 
 -- ---- first this, then that, and then another
-
-pub sequence-then : {E T A B C : Type 0} (c : Computation E T A) (f : A → Computation E T B) (g : B → Computation E T C)
-    → sequence (sequence c f) g ≡ sequence c (λ a. sequence (f a) g)
-sequence-then (give a) f g = refl
-sequence-then (fail trouble) f g = refl
-sequence-then (read x line rest) f g = λ i. read x line (λ state. sequence-then (rest state) f g i)
-sequence-then (define x value line rest) f g = ap (define x value line) (sequence-then rest f g)
-sequence-then (undefine x line rest) f g = ap (undefine x line) (sequence-then rest f g)
-sequence-then (contribute x op value rest) f g = ap (contribute x op value) (sequence-then rest f g)
-sequence-then (ask variable rest) f g = λ i. ask variable (λ bounds. sequence-then (rest bounds) f g i)
-sequence-then (pause event rest) f g = λ i. pause event (λ told. sequence-then (rest told) f g i)
 
 pub acts-then : {A B C : Type 0} (first : Act A) (second : A → Act B) (third : B → Act C) → ((first >>= second) >>= third) ≡ (first >>= (λ a. second a >>= third))
 acts-then first second third = λ i state. sequence-then (first state) (λ w. second w.0 w.1) (λ w. third w.0 w.1) i

@@ -7,16 +7,20 @@ use Rattle.dc_int.specs.declared.fault.FaultKind.{FaultKind}
 use Rattle.dc_int.specs.declared.operation.ReduceOp.{ReduceOp}
 use Rattle.dc_int.specs.Sorts.{Sort, fitted}
 use Rattle.dc_int.specs.Store.{Bounds, elements_in}
+use Rattle.dc_code.specs.declared.frame.Passed.{Passed}
+use Rattle.dc_code.specs.declared.frame.Place.{Place}
 use Rattle.dc_code.specs.Computation.{give, contribute, pause}
-use Rattle.dc_code.specs.Troubles.{Piece, Event, write_line, take_value, take_elements, end_reading, stop}
-use Rattle.dc_code.specs.Troubles as troubles
+use Rattle.dc_code.specs.Troubles.{Event, write_line, take_value, take_elements, end_reading, stop}
+use Rattle.dc_lists.specs.Output.{line_of}
 use Rattle.dc_tree.specs.declared.stmt.Intent.{Intent}
 use Rattle.dc_tree.specs.Entities.{Entity, outside, subroutine, reduction, Scope, entity}
 use Rattle.dc_tree.specs.Statements as statements
 use Rattle.dc_tree.specs.Statements.{Name, Target, Deed}
 use Rattle.dc_tree.specs.Syntax.{Tree, name, refer, chars, binary, no_args, arg}
 use Rattle.dc_tree.specs.Typing.{sort_of, sort_of_entity}
-use Rattle.dc_meaning.specs.Acts.{Place, Passed, by_value, at_place, Act, ◌>>=◌, just, doing, wrong, store, for_each}
+use Rattle.dc_meaning.specs.Acts.{Act, ◌>>=◌, just, doing, wrong, store, for_each}
+use Rattle.dc_meaning.specs.OutputPieces as output_pieces
+use Rattle.dc_meaning.specs.OutputPieces.{Piece, piece_text}
 use Rattle.dc_meaning.specs.Places.{bounds_of_entity, position_at, element_at, whole_of, whole_values}
 use Rattle.dc_meaning.specs.Values.{Callee, value, values, all_values}
 
@@ -97,8 +101,8 @@ argument_place scope call line tree = wrong FaultKind.Undefined line
 
 -- What a dummy of an intent is associated with.
 abbrev pub passed : Scope → Callee → ℕ → Intent × Tree → Act Passed
-passed scope call line (Intent.Into, tree) = value scope call line tree >>= (λ z. just (by_value z))
-passed scope call line (other, tree) = argument_place scope call line tree >>= (λ place. just (at_place place))
+passed scope call line (Intent.Into, tree) = value scope call line tree >>= (λ z. just (Passed.ByValue z))
+passed scope call line (other, tree) = argument_place scope call line tree >>= (λ place. just (Passed.AtPlace place))
 
 abbrev pub calling : Scope → Callee → ℕ → List Tree → Entity → Act Flow
 calling scope call line trees (subroutine procedure intents) = do
@@ -116,7 +120,7 @@ is_array variable = by (bounds_of_entity variable)
     by bounds = true
 
 abbrev pub piece : Sort → ℤ → Piece
-piece sort z = troubles.value sort z
+piece sort z = output_pieces.value sort z
 
 abbrev pub named_pieces : ℕ → Entity → Act ℤ → Act (List Piece)
 named_pieces line variable single =
@@ -125,7 +129,7 @@ named_pieces line variable single =
 
 -- The pieces of an output item: a literal, each element of a whole array, or a value.
 abbrev pub pieces : Scope → Callee → ℕ → Tree → Act (List Piece)
-pieces scope call line (chars text) = just (troubles.text text ∷ [])
+pieces scope call line (chars text) = just (output_pieces.text text ∷ [])
 pieces scope call line (name text) = named_pieces line (entity scope text) (value scope call line (name text))
 pieces scope call line tree = value scope call line tree >>= (λ z. just (piece (sort_of scope tree) z ∷ []))
 
@@ -136,7 +140,7 @@ paused_for event = doing (pause event (λ told. give told))
 abbrev pub printing : Scope → Callee → ℕ → List Tree → Act Flow
 printing scope call line trees = do
   given ← for_each (pieces scope call line) trees
-  paused_for (write_line line (flat_map (λ items. items) given)) >> just on
+  paused_for (write_line line (line_of (map piece_text (flat_map (λ items. items) given)))) >> just on
 
 -- An input item: a whole array, or one value, which is stored in its place.
 abbrev pub take_in : Scope → Callee → ℕ → Option (List Tree) → Entity → Act Unit

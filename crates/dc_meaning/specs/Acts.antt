@@ -1,24 +1,15 @@
 -- Acts: computations that also change the frames of the program units and spend turns. This project's own.
 use Rattle.std.specs.Prelude.{ℕ, zero, suc, ◌-◌, List, [], ◌∷◌, ◌++◌, length, take, slice_get, slice_set, Option, Some, None, option_and_then, ℤ}
-use Rattle.dc_int.specs.declared.access.ElementId.{ElementId}
 use Rattle.dc_int.specs.declared.fault.FaultKind.{FaultKind}
 use Rattle.dc_int.specs.declared.fault.Why.{Why}
 use Rattle.dc_int.specs.Store.{changed_at, number_in}
+use Rattle.dc_code.specs.declared.frame.Passed.{Passed}
+use Rattle.dc_code.specs.declared.frame.Place.{Place}
 use Rattle.dc_code.specs.Computation.{give, fail, read, define, undefine, sequence}
 use Rattle.dc_code.specs.Troubles.{Computing, Slots}
 
--- A place that can be defined: an element of an outside variable, or a slot, by the frame counted from the
--- outermost, its group and the position in that.
-pub data Place : Type 0 where
-  outer : ElementId → Place
-  in_frame : ℕ → ℕ → ℕ → Place
-
--- What a dummy is associated with. After ISO/IEC 1539-1:2023, clause 15.5.2; that an INTENT(IN) dummy takes
--- a value is this project's own.
-pub data Passed : Type 0 where
-  by_value : ℤ → Passed
-  at_place : Place → Passed
-
+-- What a unit has: its slots, and what its dummies are associated with. After ISO/IEC 1539-1:2023, clause 15.5.2;
+-- that an INTENT(IN) dummy takes a value is this project's own.
 pub record Frame : Type 0 where
   pub slots : Slots
   pub dummies : List Passed
@@ -106,17 +97,17 @@ slot_put level group position state frames = changed_at in_frame_changed frames 
 
 -- What stands at a place. An element of an outside variable is read by an entry.
 abbrev pub load : ℕ → Place → Act (Option ℤ)
-load line (outer x) = doing (read x line (λ state. give state))
-load line (in_frame level group position) = λ state. give (slot_of state.frames level group position, state)
+load line (Place.Outer x) = doing (read x line (λ state. give state))
+load line (Place.InFrame level group position) = λ state. give (slot_of state.frames level group position, state)
 
 abbrev pub store : ℕ → Place → ℤ → Act Unit
-store line (outer x) value = doing (define x value line (give tt))
-store line (in_frame level group position) value = with_frames (slot_put level group position (Some value))
+store line (Place.Outer x) value = doing (define x value line (give tt))
+store line (Place.InFrame level group position) value = with_frames (slot_put level group position (Some value))
 
 -- What stands at a place becomes undefined.
 abbrev pub forget : ℕ → Place → Act Unit
-forget line (outer x) = doing (undefine x line (give tt))
-forget line (in_frame level group position) = with_frames (slot_put level group position None)
+forget line (Place.Outer x) = doing (undefine x line (give tt))
+forget line (Place.InFrame level group position) = with_frames (slot_put level group position None)
 
 -- A number that has to be there.
 abbrev pub required : ℕ → Option ℤ → Act ℤ

@@ -3,6 +3,8 @@
 use Rattle.std.specs.Prelude.{ℕ, zero, suc, ◌-◌, List, [], ◌∷◌, ◌++◌, filter_map, zip, slice_get, Option, Some, None, ℤ}
 use Rattle.dc_int.specs.declared.fault.FaultKind.{FaultKind}
 use Rattle.dc_int.specs.Sorts.{Sort}
+use Rattle.dc_code.specs.declared.frame.Passed.{Passed}
+use Rattle.dc_code.specs.declared.frame.Place.{Place}
 use Rattle.dc_code.specs.Computation.{give}
 use Rattle.dc_code.specs.Troubles.{Slots}
 pub use Rattle.dc_plain.specs.FirstStores.{undefined_cells}
@@ -11,7 +13,7 @@ use Rattle.dc_tree.specs.declared.symbols.Role as roles
 use Rattle.dc_tree.specs.declared.symbols.Symbol.{Symbol}
 use Rattle.dc_tree.specs.Blocks.{Items, Subprogram}
 use Rattle.dc_tree.specs.Entities.{Scope, symbols_in, result_in, intents_in, procedure_scope}
-use Rattle.dc_meaning.specs.Acts.{Place, Passed, at_place, Act, ◌>>=◌, just, wrong, spend, for_each, forget, enter_unit, leave_unit, level, slot_of}
+use Rattle.dc_meaning.specs.Acts.{Act, ◌>>=◌, just, wrong, spend, for_each, forget, enter_unit, leave_unit, level, slot_of}
 use Rattle.dc_meaning.specs.Actions.{◌>>◌}
 use Rattle.dc_meaning.specs.Execution.{exec_all}
 use Rattle.dc_meaning.specs.Values.{Callee}
@@ -25,7 +27,7 @@ pub record Procedure : Type 0 where
 
 -- The places of INTENT(OUT) dummies.
 abbrev pub out_place : Intent × Passed → Option Place
-out_place (Intent.Out, at_place place) = Some place
+out_place (Intent.Out, Passed.AtPlace place) = Some place
 out_place other = None
 
 -- A function's result is the first of its slots.

@@ -7,6 +7,7 @@ use Rattle.dc_int.specs.declared.kind.Kind.{Kind}
 use Rattle.dc_int.specs.declared.variable.Locality.{Locality}
 use Rattle.dc_int.specs.Sorts.{Sort, whole}
 use Rattle.dc_int.specs.Store.{Bounds, elements_in}
+pub use Rattle.dc_code.specs.CodeForms.{index_slots}
 use Rattle.dc_code.specs.Loops.{Copies}
 use Rattle.dc_code.specs.Troubles.{Slots}
 use Rattle.dc_tree.specs.declared.stmt.Local.{Local}
@@ -67,9 +68,6 @@ scalars_from group (first ∷ rest) = (first.0, slots group first.1 []) ∷ scal
 
 abbrev pub index_names : Concurrent → List (Name × Entity)
 index_names loop = scalars_from loop.around.groups (map (λ ranging. (ranging.name, index_sort loop.around loop.spec ranging)) loop.indexes)
-
-abbrev pub index_slots : List ℤ → Slots
-index_slots at = map (λ z. Some z ∷ []) at
 
 -- ---- localities
 

@@ -1,10 +1,11 @@
 -- The execution of blocks: constructs, loops and their turns. After ISO/IEC 1539-1:2023, clauses 11.1.2,
 -- 11.1.7, 11.1.8 and 11.1.9; the turns are this project's own.
-use Rattle.std.specs.Prelude.{ℕ, zero, suc, ◌+◌, ◌+ℤ◌, Bool, true, false, ◌&&◌, [], bytes_eq, Option, Some, None, if◌then◌else◌, ℤ, pos, int_le}
+use Rattle.std.specs.Prelude.{ℕ, zero, suc, ◌+◌, ◌+ℤ◌, Bool, true, false, ◌&&◌, min, [], bytes_eq, Option, Some, None, if◌then◌else◌, ℤ, pos, int_le}
 use Rattle.std.specs.List.{list_any}
 use Rattle.dc_int.specs.declared.fault.FaultKind.{FaultKind}
 use Rattle.dc_int.specs.Reductions.{truth}
 use Rattle.dc_int.specs.Sorts.{Sort, fitted}
+use Rattle.dc_code.specs.declared.frame.Place.{Place}
 use Rattle.dc_code.specs.Combinations.{Span, natural, value_count}
 use Rattle.dc_code.specs.Computation.{give, pause}
 use Rattle.dc_code.specs.Troubles.{enter_loop}
@@ -15,7 +16,7 @@ use Rattle.dc_tree.specs.Statements as statements
 use Rattle.dc_tree.specs.Statements.{Name, Ranging, CaseRange, Statement}
 use Rattle.dc_tree.specs.Syntax.{Tree}
 use Rattle.dc_tree.specs.Typing.{sort_of_entity, constant_value}
-use Rattle.dc_meaning.specs.Acts.{Place, Act, ◌>>=◌, just, wrong, spend, innermost, store, refer_to}
+use Rattle.dc_meaning.specs.Acts.{Act, ◌>>=◌, just, wrong, spend, innermost, store, refer_to}
 use Rattle.dc_meaning.specs.Actions.{Flow, on, returns, cycles, exits, ◌>>◌, act}
 use Rattle.dc_meaning.specs.Places.{element_at}
 use Rattle.dc_meaning.specs.Values.{Callee, value}
@@ -82,10 +83,11 @@ while_do line label test body state = while_rounds (suc state.turns) line label 
 
 -- ---- a DO CONCURRENT
 
--- The loop of this number is run elsewhere, and tells the turns that are left.
+-- The loop of this number is run elsewhere, and tells the turns that are left: no more than there were when it
+-- was reached.
 abbrev pub concurrent_do : ℕ → Act Flow
 concurrent_do number state =
-    pause (enter_loop number state.turns (innermost state).slots) (λ told. give (on, record { frames = state.frames; turns = natural told }))
+    pause (enter_loop number state.turns (innermost state).slots) (λ told. give (on, record { frames = state.frames; turns = min (natural told) state.turns }))
 
 -- A loop by its head, its number among the DO CONCURRENT loops of the program, and what a round does.
 abbrev pub loop_of : Scope → Callee → ℕ → Line → Act Flow → Act Flow

@@ -10,6 +10,7 @@ pub mod Headers
 pub mod Judging
 pub mod Looping
 pub mod Numbering
+pub mod OutputPieces
 pub mod Pairing
 pub mod Pieces
 pub mod Places

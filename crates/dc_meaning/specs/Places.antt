@@ -6,8 +6,10 @@ use Rattle.dc_int.specs.declared.fault.FaultKind.{FaultKind}
 use Rattle.dc_int.specs.declared.kind.Kind.{Kind}
 use Rattle.dc_int.specs.Kinds.{wrapped}
 use Rattle.dc_int.specs.Store.{Bounds, extent, elements_in, position_in}
+use Rattle.dc_code.specs.declared.frame.Passed.{Passed}
+use Rattle.dc_code.specs.declared.frame.Place.{Place}
 use Rattle.dc_tree.specs.Entities.{Entity, outside, slots, dummy, constant, reduction}
-use Rattle.dc_meaning.specs.Acts.{Place, outer, in_frame, Passed, by_value, at_place, Act, ◌>>=◌, just, wrong, level, passed_at, refer_to, for_each}
+use Rattle.dc_meaning.specs.Acts.{Act, ◌>>=◌, just, wrong, level, passed_at, refer_to, for_each}
 
 abbrev pub bounds_of_entity : Entity → Bounds
 bounds_of_entity (outside variable sort bounds) = bounds
@@ -26,12 +28,12 @@ position_at line bounds subscripts = by (position_in bounds subscripts)
 -- The place of a position in a variable; of a dummy, the place that it is associated with. Nothing else
 -- has places.
 abbrev pub place_of : ℕ → Entity → ℕ → Act Place
-place_of line (outside variable sort bounds) position = just (outer (record { variable = variable; position = position }))
-place_of line (slots group sort bounds) position = level >>= (λ frame. just (in_frame frame group position))
+place_of line (outside variable sort bounds) position = just (Place.Outer (record { variable = variable; position = position }))
+place_of line (slots group sort bounds) position = level >>= (λ frame. just (Place.InFrame frame group position))
 place_of line (dummy number sort) position = passed_at number >>= place_in
   where
     place_in : Option Passed → Act Place
-    place_in (Some (at_place place)) = just place
+    place_in (Some (Passed.AtPlace place)) = just place
     place_in other = wrong FaultKind.Undefined line
 place_of line other position = wrong FaultKind.Undefined line
 
@@ -49,8 +51,8 @@ value_at_entity line (constant sort value) subscripts = just value
 value_at_entity line (dummy number sort) subscripts = passed_at number >>= value_in
   where
     value_in : Option Passed → Act ℤ
-    value_in (Some (by_value value)) = just value
-    value_in (Some (at_place place)) = refer_to line place
+    value_in (Some (Passed.ByValue value)) = just value
+    value_in (Some (Passed.AtPlace place)) = refer_to line place
     value_in None = wrong FaultKind.Undefined line
 value_at_entity line entity subscripts = element_at line entity subscripts >>= refer_to line
 

@@ -2,12 +2,13 @@
 use Rattle.std.specs.Prelude.{ℕ, List, [], ◌∷◌, zip, Option, ℤ}
 use Rattle.dc_int.specs.declared.fault.FaultKind.{FaultKind}
 use Rattle.dc_int.specs.Sorts.{Sort, fitted}
+use Rattle.dc_code.specs.declared.frame.Place.{Place}
 use Rattle.dc_tree.specs.Entities.{Entity, Scope}
 use Rattle.dc_tree.specs.Syntax.{Tree}
 use Rattle.dc_tree.specs.Typing.{sort_of_entity}
 use Rattle.dc_meaning.specs.Actions.{Flow, on, ◌>>◌, places_of}
 use Rattle.dc_meaning.specs.Acts as acts
-use Rattle.dc_meaning.specs.Acts.{Place, Act, ◌>>=◌, for_each}
+use Rattle.dc_meaning.specs.Acts.{Act, ◌>>=◌, for_each}
 use Rattle.dc_meaning.specs.Gathering.{places_from}
 use Rattle.dc_meaning.specs.Places.{whole_of, element_at}
 use Rattle.dc_meaning.specs.Values.{Callee}

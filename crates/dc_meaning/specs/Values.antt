@@ -11,6 +11,7 @@ use Rattle.dc_int.specs.Operations.{Outcome}
 use Rattle.dc_int.specs.Reductions.{truth, number_of_truth}
 use Rattle.dc_int.specs.Sorts.{Sort, kind_of}
 use Rattle.dc_int.specs.Store.{Bounds}
+use Rattle.dc_code.specs.declared.frame.Passed.{Passed}
 use Rattle.dc_code.specs.Closing.{combined_with}
 use Rattle.dc_tree.specs.Entities.{Entity, function, nothing, Scope, entity}
 use Rattle.dc_tree.specs.Intrinsics.{Intrinsic, operation, chosen, merge, converted, huge, bit_size, kind, size, lower_bound, upper_bound, total, count, any, all, intrinsic}
@@ -19,7 +20,7 @@ use Rattle.dc_tree.specs.Operating.{joined_by, led_by, called, about_kind}
 use Rattle.dc_tree.specs.Syntax as syntax
 use Rattle.dc_tree.specs.Syntax.{Tree, Args, number, chars, name, refer, paren, unary, binary, no_args, arg}
 use Rattle.dc_tree.specs.Typing.{joined, kind_converted, sort_of, sorts_of, first_sort, constants_of}
-use Rattle.dc_meaning.specs.Acts.{Passed, by_value, Act, ◌>>=◌, just, wrong, required, for_each}
+use Rattle.dc_meaning.specs.Acts.{Act, ◌>>=◌, just, wrong, required, for_each}
 use Rattle.dc_meaning.specs.Places.{bounds_of_entity, value_at_entity, whole_values, size_of, low_of, high_of, extent_of}
 
 -- What a call of a procedure does, by its number, the line of the statement that calls, and what its
@@ -37,7 +38,7 @@ settled line (Err OpFault.Shift) = wrong FaultKind.ShiftRange line
 
 -- By the values of the subscripts or arguments.
 abbrev pub refer_value : Callee → ℕ → Entity → List ℤ → Act ℤ
-refer_value call line (function procedure sort) values = call procedure line (map by_value values) >>= required line
+refer_value call line (function procedure sort) values = call procedure line (map Passed.ByValue values) >>= required line
 refer_value call line entity values = value_at_entity line entity values
 
 -- ---- functions of the language

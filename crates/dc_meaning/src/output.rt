@@ -2,7 +2,6 @@
 
 ghost use Rattle.std.specs.Prelude.{◌≡◌, ◌≤◌, [], ◌∷◌, map, IfOk, IsTrue};
 ghost use Rattle.std.specs.List.{list_all};
-ghost use Rattle.dc_code.specs.Troubles as troubles;
 ghost use Rattle.dc_entities.specs.Found.{entity_of, bounds_found};
 ghost use Rattle.dc_int.specs.Store.{elements_in};
 ghost use Rattle.dc_sorts.specs.Forms.{sort_of_form};
@@ -12,6 +11,7 @@ ghost use Rattle.dc_tree.specs.Syntax.{tree};
 ghost use Rattle.dc_tree.specs.Typing.{sort_of};
 ghost use Rattle.dc_meaning.specs.Acts.{for_each};
 ghost use Rattle.dc_meaning.specs.Actions as actions;
+ghost use Rattle.dc_meaning.specs.OutputPieces as output_pieces;
 ghost use Rattle.dc_meaning.specs.Pieces.{piece_of};
 ghost use Rattle.dc_meaning.specs.Places.{value_at_entity, whole_values};
 ghost use Rattle.dc_meaning.specs.Values as values;
@@ -54,7 +54,7 @@ fn value_pieces(alloc: Global, form: Form, values: &[i64]) -> Result<DcList<Piec
 }
 
 fn text_piece(alloc: Global, text: &DcText) -> Result<DcList<Piece>, NoMemory>
-    ensures { IfOk result (λ made. map piece_of made ≡ troubles.text text.now ∷ []) }
+    ensures { IfOk result (λ made. map piece_of made ≡ output_pieces.text text.now ∷ []) }
 {
     let mut made = DcList::new(alloc);
     made.push(Piece::Text(text.copy(alloc)?))?;

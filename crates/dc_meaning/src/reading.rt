@@ -1,6 +1,7 @@
 //! References to variables, their elements and constants.
 
 ghost use Rattle.std.specs.Prelude.{◌≡◌, ◌≤◌, []};
+ghost use Rattle.dc_code.specs.declared.frame.Place.{Place};
 ghost use Rattle.dc_code.specs.Troubles.{Slots};
 ghost use Rattle.dc_entities.specs.Found.{entity_of, bounds_found};
 ghost use Rattle.dc_int.specs.Sorts.{Sort, whole};
@@ -27,7 +28,7 @@ pub(crate) fn element_of(
     subscripts: &[i64],
 ) -> Result<ElementId, Stop>
     requires { elements_in bounds.now ≤ 4194304 }
-    ensures { (own : Slots) (view : View) (sort : Sort) → Stays acts.outer own view
+    ensures { (own : Slots) (view : View) (sort : Sort) → Stays Place.Outer own view
         (λ call. places.element_at line (outside variable sort bounds.now) subscripts.now) view result }
 {
     match position(bounds, subscripts) {
@@ -39,7 +40,7 @@ pub(crate) fn element_of(
 /// A reference to an element, which has to be defined.
 pub(crate) fn read(ledger: &mut Ledger, line: u32, element: ElementId) -> Result<i64, Stop>
     ensures { (own : Slots) → Stays (λ z. z) own ledger.old
-        (λ call. acts.refer_to line (acts.outer element)) ledger.new result }
+        (λ call. acts.refer_to line (Place.Outer element)) ledger.new result }
 {
     let state = ledger.get(element, line)?;
     required(line, state)
