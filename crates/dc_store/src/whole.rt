@@ -1,6 +1,7 @@
 //! `WholeStore`, the cells of one store.
 
 ghost use Rattle.std.specs.Prelude.{◌≡◌};
+ghost use Rattle.dc_store.specs.Shaped.{IsFitting};
 ghost use Rattle.dc_store.specs.Whole.{whole_of};
 
 use crate::cells::Cells;
@@ -18,8 +19,11 @@ pub struct WholeStore<'a> {
 impl<'a> WholeStore<'a> {
     /// It takes no memory.
     pub fn new(store: &'a mut Store) -> WholeStore<'a>
-        ensures { whole_of result ≡ record { name = store.entry.ghost_name; shaped = store.old } }
+        ensures holds { whole_of result
+            ≡ record { name = store.entry.ghost_name; shaped = store.old } }
+        ensures fitting { IsFitting store.old }
     {
+        let _shapes = store.shapes();
         WholeStore { store }
     }
 }
