@@ -1,4 +1,5 @@
 pub mod Changing
 pub mod Declared
+pub mod Examples
 pub mod Finding
 pub mod Undefined

@@ -1,9 +1,9 @@
 -- A store beside the shapes of its variables, and the store with which a run begins. This project's own.
-use Rattle.std.specs.Prelude.{ℕ, ◌≤◌, Bool, false, nat_lt, slice_get, List, [], ◌∷◌, map, replicate, sum_by, Option, Some, None, ℤ, pos, IsTrue}
+use Rattle.std.specs.Prelude.{ℕ, ◌≤◌, Bool, false, nat_lt, slice_get, List, [], ◌∷◌, map, replicate, sum_by, Option, Some, None, pos, IsTrue}
 use Rattle.dc_int.specs.declared.access.ElementId.{ElementId}
 use Rattle.dc_int.specs.declared.variable.Shape.{Shape}
 use Rattle.dc_int.specs.Shapes.{store_fits}
-use Rattle.dc_int.specs.Store.{Bounds, Variable, Store, put_at}
+use Rattle.dc_int.specs.Store.{Bounds, Variable, Store}
 
 -- A store, and the shapes of its variables.
 pub record ShapedStore : Type 0 where
@@ -39,7 +39,3 @@ undefined_variable shape = record { bounds = Some (one_dimension shape.elements)
 -- The store of these shapes of which nothing is defined.
 abbrev pub undefined_store : List Shape → ShapedStore
 undefined_store shapes = record { shapes = shapes; store = map undefined_variable shapes }
-
--- The store with that one element in this state. The shapes stay.
-abbrev pub put_in : ElementId → Option ℤ → ShapedStore → ShapedStore
-put_in x state shaped = record shaped { store = put_at shaped.store x state }

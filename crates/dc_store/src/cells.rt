@@ -1,12 +1,11 @@
 //! `Cells`, by which a machine reaches the cells of a store.
 
 ghost use Rattle.std.specs.Prelude.{◌≡◌, List, Some, is_some, IfOk, OnOk, IsTrue};
-ghost use Rattle.dc_int.specs.declared.access.ElementId.{ElementId};
 ghost use Rattle.dc_int.specs.declared.variable.Shape.{Shape};
 ghost use Rattle.dc_int.specs.Entries.{Entry, Reads, Defines, Undefines, Contributes, store_after_entry};
-ghost use Rattle.dc_int.specs.Shapes.{state_fits, store_fits, entry_fits};
+ghost use Rattle.dc_int.specs.Shapes.{state_fits};
 ghost use Rattle.dc_int.specs.Store.{Store, cell_of, value_at};
-ghost use Rattle.dc_store.specs.Keeping.{elements-kept, fitting-kept};
+ghost use Rattle.dc_store.specs.Keeping.{KeepsElements, KeepsFitting, elements-kept, fitting-kept};
 
 use dc_int::{ElementId, ReduceOp};
 use dc_text::NoMemory;
@@ -67,8 +66,8 @@ pub trait Cells {
         ensures { OnOk result
             (holds self.new ≡ after (Contributes element op value) (holds self.old)) };
 
-    // An entry changes the store shown as it changes any store: of a definition one element has the
-    // value, one that becomes undefined is so, and a read and a contribution change none.
+    // An entry changes the store shown as it changes any store: a definition gives one element its
+    // value, an element that becomes undefined is so, and a read and a contribution change none.
     ghost shows: { (entry : Entry) (meaning : Meaning)
         → shown (after entry meaning) ≡ store_after_entry entry (shown meaning) };
 
@@ -76,13 +75,10 @@ pub trait Cells {
     ghost keeps_shapes: { (entry : Entry) (meaning : Meaning)
         → shapes (after entry meaning) ≡ shapes meaning };
 
-    // So it keeps the elements, and one that fits keeps the store shown fitting. A form leaves these
-    // two as they are.
-    ghost keeps_elements: { (entry : Entry) (meaning : Meaning) (x : ElementId)
-        → is_some (cell_of (shown (after entry meaning)) x) ≡ is_some (cell_of (shown meaning) x) } = { elements-kept shapes shown after shows keeps_shapes };
+    // So it keeps the elements, and one that fits keeps the store shown fitting. These two are laws of
+    // every form by the two above.
+    ghost keeps_elements: { KeepsElements shown after } = { elements-kept shown after shows };
 
-    ghost keeps_fitting: { (entry : Entry) (meaning : Meaning)
-        → IsTrue (store_fits (shapes meaning) (shown meaning))
-        → IsTrue (entry_fits (shapes meaning) entry)
-        → IsTrue (store_fits (shapes (after entry meaning)) (shown (after entry meaning))) } = { fitting-kept shapes shown after shows keeps_shapes };
+    ghost keeps_fitting: { KeepsFitting shapes shown after } = { fitting-kept shapes shown after
+        shows keeps_shapes };
 }

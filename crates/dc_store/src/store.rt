@@ -1,10 +1,11 @@
 //! `Store`, the cells of a running program.
 
 ghost use Rattle.std.specs.Prelude.{◌≡◌, ◌≤◌, map, is_some, IfOk, IsTrue};
-ghost use Rattle.dc_int.specs.Shapes.{state_fits, store_fits};
-ghost use Rattle.dc_int.specs.Store.{cell_of, value_at};
+ghost use Rattle.dc_int.specs.Shapes.{state_fits};
+ghost use Rattle.dc_int.specs.Store.{cell_of, value_at, put_at};
 ghost use Rattle.dc_store.specs.Rows.{store_of};
-ghost use Rattle.dc_store.specs.Shaped.{elements_together, undefined_store, undefined_variable, put_in};
+ghost use Rattle.dc_store.specs.Shaped.{IsFitting, elements_together, undefined_store};
+ghost use Rattle.dc_store.specs.Shaped.{undefined_variable};
 
 use dc_int::{ElementId, Shape};
 use dc_text::NoMemory;
@@ -34,7 +35,8 @@ impl Store {
     /// A store of these shapes of which nothing is defined.
     pub fn new(alloc: Global, shapes: &[Shape]) -> Result<Store, NoMemory>
         requires { elements_together shapes.now ≤ 4194304 }
-        ensures { IfOk result (λ made. made ≡ undefined_store shapes.now) }
+        ensures undefined { IfOk result (λ made. made ≡ undefined_store shapes.now) }
+        ensures fitting { IfOk result IsFitting }
     {
         let rows = undefined_rows(alloc, shapes)?;
         let shapes = Vec::from_slice(alloc, shapes)?;
@@ -44,8 +46,7 @@ impl Store {
     /// The shapes of the variables.
     pub fn shapes(&self) -> &[Shape]
         ensures shapes { result.now ≡ self.now.shapes }
-        ensures fits { IsTrue (store_fits self.now.shapes self.now.store) }
-        ensures few { elements_together self.now.shapes ≤ 4194304 }
+        ensures fitting { IsFitting self.now }
     {
         self.shapes.as_slice()
     }
@@ -53,16 +54,19 @@ impl Store {
     /// The state of an element. `None` is undefined. It takes constant time.
     pub fn value(&self, element: ElementId) -> Option<i64>
         requires { IsTrue (is_some (cell_of self.now.store element)) }
-        ensures { result ≡ value_at self.now.store element }
+        ensures value { result ≡ value_at self.now.store element }
+        ensures fitting { IsFitting self.now }
     {
-        self.rows[element.variable as usize][element.position as usize]
+        let cells = &self.rows[element.variable as usize];
+        cells[element.position as usize]
     }
 
     /// Puts an element in a state, and leaves all else. It takes constant time.
     pub fn put(&mut self, element: ElementId, value: Option<i64>)
         requires element { IsTrue (is_some (cell_of self.old.store element)) }
         requires fits { IsTrue (state_fits self.old.shapes element value) }
-        ensures { self.new ≡ put_in element value self.old }
+        ensures put { self.new ≡ record self.old { store = put_at self.old.store element value } }
+        ensures fitting { IsFitting self.new }
     {
         self.rows[element.variable as usize][element.position as usize] = value;
     }

@@ -1,9 +1,9 @@
-use Rattle.std.proofs.Common.{arith, refl, sym, ap, subst, ◌∙◌}
+use Rattle.std.proofs.Common.{arith, refl, ap, ◌∙◌}
 use Rattle.std.specs.Vec.{with_item}
 use Rattle.dc_int.specs.Shapes.{state_fits}
 use Rattle.dc_store.specs.Rows.{shaped_of}
-use Rattle.dc_store.specs.Shaped.{ShapedStore, IsFitting, put_in}
-use Rattle.dc_store.proofs.Changing.{put-shaped, fitting-put}
+use Rattle.dc_store.specs.Shaped.{ShapedStore}
+use Rattle.dc_store.proofs.Changing.{put_in, put-shaped, fitting-row}
 use Rattle.dc_store.proofs.Finding.{exists-in, within_rows, within_row, row-read}
 use Rattle.dc_store.proofs.store.Store.put.Goals as goal
 
@@ -33,10 +33,10 @@ invariant_of-self c =
     let exists = exists-in (shaped_of shapes rows) c.args.self.now x c.self.view_is c.requires.element in
     let found = row-read rows x row exists c.index_mut.ensures.value in
     let fits = ap (λ (s : ShapedStore). state_fits s.shapes x state) c.self.view_is ∙ c.requires.fits in
-    subst IsFitting (sym (put-shaped shapes rows x row (with_item row x.position state) state found refl)) (fitting-put (shaped_of shapes rows) x state c.self.invariant fits)
+    fitting-row shapes rows x row (with_item row x.position state) state found refl c.self.invariant fits
 
-pub returns : goal.returns
-returns c =
+pub returns-clause-put : goal.returns-clause-put
+returns-clause-put c =
     let shapes = c.self.inside.shapes.items in
     let rows = c.self.inside.rows.items in
     let x = c.args.element in
@@ -45,3 +45,6 @@ returns c =
     let exists = exists-in (shaped_of shapes rows) c.args.self.now x c.self.view_is c.requires.element in
     let found = row-read rows x row exists c.index_mut.ensures.value in
     put-shaped shapes rows x row (with_item row x.position state) state found refl ∙ ap (put_in x state) c.self.view_is
+
+pub returns-clause-fitting : goal.returns-clause-fitting
+returns-clause-fitting c = invariant_of-self c
