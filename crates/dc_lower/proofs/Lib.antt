@@ -1,0 +1,4 @@
+pub mod Assigning
+pub mod Expressions
+pub mod Placing
+pub mod Printing

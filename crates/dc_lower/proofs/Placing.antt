@@ -1,0 +1,58 @@
+-- Where parts of instructions stand, and the machine's next step there.
+use Rattle.std.proofs.Common.{◌≡◌, ◌<◌, ℕ, zero, suc, ◌+◌, List, [], ◌∷◌, ◌++◌, length, Option, Some, None, refl, sym, ap, ◌∙◌, subst, arith}
+use Rattle.std.proofs.lemmas.Option.{none-some}
+use Rattle.std.specs.Prelude.{ℤ, slice_get}
+use Rattle.dc_code.specs.Troubles.{Computing}
+use Rattle.dc_code.specs.declared.instr.Instr.{Instr}
+use Rattle.dc_code.specs.declared.instr.What.{What}
+use Rattle.dc_code.specs.Codes.{CodeLists}
+use Rattle.dc_code.specs.Frames.{Frame}
+use Rattle.dc_code.specs.Instructions.{act}
+use Rattle.dc_code.specs.Machine.{machine, fetched}
+use Rattle.dc_lower.specs.Placed.{StandAt}
+use Rattle.dc_code.proofs.Unfolding.{unfolds}
+
+pub get-left : {A : Type 0} (first second : List A) (i : ℕ) (item : A) → slice_get first i ≡ Some item → slice_get (first ++ second) i ≡ Some item
+get-left [] second zero item e = absurd (none-some item e)
+get-left [] second (suc i) item e = absurd (none-some item e)
+get-left (x ∷ first) second zero item e = e
+get-left (x ∷ first) second (suc i) item e = get-left first second i item e
+
+pub get-right : {A : Type 0} (first second : List A) (i : ℕ) → slice_get (first ++ second) (length first + i) ≡ slice_get second i
+get-right [] second i = ap (slice_get second) (none-before i)
+  where
+    none-before : (i : ℕ) → 0 + i ≡ i
+    none-before i = omega arith
+get-right (x ∷ first) second i = ap (slice_get (x ∷ (first ++ second))) (one-before (length first) i) ∙ get-right first second i
+  where
+    one-before : (n i : ℕ) → suc n + i ≡ suc (n + i)
+    one-before n i = omega arith
+
+pub length-both : {A : Type 0} (first second : List A) → length (first ++ second) ≡ length first + length second
+length-both [] second = omega arith
+length-both (x ∷ first) second = ap suc (length-both first second) ∙ omega arith
+
+pub stand-left : {code : CodeLists} {line at : ℕ} (first second : List What) → StandAt code line at (first ++ second) → StandAt code line at first
+stand-left first second stand = record { each = λ i what e. stand.each i what (get-left first second i what e) }
+
+pub stand-right : {code : CodeLists} {line : ℕ} (at : ℕ) (first second : List What) → StandAt code line at (first ++ second) → StandAt code line (at + length first) second
+stand-right {code} {line} at first second stand =
+    record { each = λ i what e. subst (λ place. slice_get code.instructions place ≡ Some (record { line = line; what = what })) (behind i) (stand.each (length first + i) what (get-right first second i ∙ e)) }
+  where
+    behind : (i : ℕ) → at + (length first + i) ≡ at + length first + i
+    behind i = omega arith
+
+pub stand-rest : {code : CodeLists} {line : ℕ} (at : ℕ) (what : What) (rest : List What) → StandAt code line at (what ∷ rest) → StandAt code line (suc at) rest
+stand-rest {code} {line} at what rest stand =
+    record { each = λ i next e. subst (λ place. slice_get code.instructions place ≡ Some (record { line = line; what = next })) (behind i) (stand.each (suc i) next e) }
+  where
+    behind : (i : ℕ) → at + suc i ≡ suc at + i
+    behind i = omega arith
+
+-- The machine carries out the instruction that stands there.
+pub stepped : {code : CodeLists} {line : ℕ} (at : ℕ) (what : What) (rest : List What) (frame : Frame) (turns : ℕ) → StandAt code line at (what ∷ rest)
+    → machine code at frame turns ≡ act code (machine code) line what at frame turns
+stepped {code} {line} at what rest frame turns stand = unfolds code at frame turns ∙ ap (λ found. fetched code (machine code) found at frame turns) here
+  where
+    here : slice_get code.instructions at ≡ Some (record { line = line; what = what })
+    here = subst (λ place. slice_get code.instructions place ≡ Some (record { line = line; what = what })) (omega arith) (stand.each 0 what refl)

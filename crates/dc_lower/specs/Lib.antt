@@ -1,0 +1,4 @@
+pub mod Assigning
+pub mod Expressions
+pub mod Placed
+pub mod Printing

@@ -1,0 +1,44 @@
+-- Where instructions stand in a code, and what a frame has of the names of a scope. This project's own.
+use Rattle.std.specs.Prelude.{◌≡◌, ◌<◌, ℕ, ◌+◌, ◌-◌, List, map, length, slice_get, Option, Some, ℤ}
+use Rattle.std.specs.List.{range_with_len}
+use Rattle.dc_int.specs.declared.variable.Shape.{Shape}
+use Rattle.dc_int.specs.Reductions.{truth, number_of_truth}
+use Rattle.dc_int.specs.Sorts.{Sort, logical, sort_with}
+use Rattle.dc_int.specs.Store.{Bounds, elements_in}
+use Rattle.dc_code.specs.declared.instr.Instr.{Instr}
+use Rattle.dc_code.specs.declared.instr.What.{What}
+use Rattle.dc_code.specs.declared.plan.Group.{Group}
+use Rattle.dc_code.specs.Codes.{CodeLists}
+use Rattle.dc_code.specs.Frames.{Frame, level, slot_of}
+use Rattle.dc_code.specs.Reaching.{group_planned, group_slots}
+use Rattle.dc_tree.specs.Entities.{outside, slots, constant, Scope, entity}
+use Rattle.dc_tree.specs.Statements.{Name}
+use Rattle.dc_meaning.specs.Acts as acts
+use Rattle.dc_meaning.specs.Acts.{State}
+
+-- These instructions, of one line, stand in a code from a place on.
+pub record StandAt (code : CodeLists) (line at : ℕ) (whats : List What) : Type 0 where
+  pub each : (i : ℕ) (what : What) → slice_get whats i ≡ Some what → slice_get code.instructions (at + i) ≡ Some (record { line = line; what = what })
+
+-- An outside variable is in the code as it is declared.
+pub record IsOutside (code : CodeLists) (variable : ℕ) (sort : Sort) (declared : Bounds) : Type 0 where
+  pub bounds : slice_get code.bounds variable ≡ Some declared
+  pub shape : Shape
+  pub shaped : slice_get code.shapes variable ≡ Some shape
+  pub elements : shape.elements ≡ elements_in declared
+  pub sorted : sort_with shape.logical shape.kind ≡ sort
+
+-- A group of the innermost unit is planned as it is declared, and holds what it holds in the state.
+pub record IsGroup (code : CodeLists) (frame : Frame) (state : State) (group : ℕ) (sort : Sort) (declared : Bounds) : Type 0 where
+  pub planned : Group
+  pub plan : group_planned code frame group ≡ Some planned
+  pub bounds : planned.bounds ≡ declared
+  pub sorted : sort_with planned.logical planned.kind ≡ sort
+  pub same : (position : ℕ) → slot_of frame.units (level frame) group position ≡ acts.slot_of state.frames (length state.frames - 1) group position
+  pub all : group_slots frame group ≡ map (λ position. slot_of frame.units (level frame) group position) (range_with_len 0 (elements_in declared))
+
+-- A code and a frame have what the names of a scope stand for, and a named truth is 1 or 0.
+pub record HaveNames (code : CodeLists) (scope : Scope) (frame : Frame) (state : State) : Type 0 where
+  pub outer : (text : Name) (variable : ℕ) (sort : Sort) (bounds : Bounds) → entity scope text ≡ outside variable sort bounds → IsOutside code variable sort bounds
+  pub inner : (text : Name) (group : ℕ) (sort : Sort) (bounds : Bounds) → entity scope text ≡ slots group sort bounds → IsGroup code frame state group sort bounds
+  pub truths : (text : Name) (z : ℤ) → entity scope text ≡ constant logical z → number_of_truth (truth z) ≡ z
