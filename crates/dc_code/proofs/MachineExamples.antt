@@ -369,14 +369,24 @@ looping = record {
   plans = record { dummies = []; groups = [] } ∷ record { dummies = []; groups = [] } ∷ record { dummies = []; groups = scalar Kind.K4 ∷ [] } ∷ record { dummies = []; groups = scalar Kind.K4 ∷ [] } ∷ [];
   entries = [];
   constructs = record {
-    line = 2; width = 1; kinds = Kind.K4 ∷ []; header = 2; mask = Some 6; body = 15;
+    line = 2;
+    width = 1;
+    kinds = Kind.K4 ∷ [];
+    header = 2;
+    mask = Some 6;
+    body = 15;
     localities = Locality.Plain ∷ Locality.Plain ∷ Locality.Plain ∷ [];
   } ∷ [];
 }
 
 abbrev the_loop : ConstructCode
 the_loop = record {
-  line = 2; width = 1; kinds = Kind.K4 ∷ []; header = 2; mask = Some 6; body = 15;
+  line = 2;
+  width = 1;
+  kinds = Kind.K4 ∷ [];
+  header = 2;
+  mask = Some 6;
+  body = 15;
   localities = Locality.Plain ∷ Locality.Plain ∷ Locality.Plain ∷ [];
 }
 

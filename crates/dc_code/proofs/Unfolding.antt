@@ -117,7 +117,7 @@ computed-kept : (b : Bool) (line : ℕ) (op : Op) (kind : Kind) (frame : Frame) 
 computed-kept true line op kind frame =
     behind-value (Kept frame) line frame _ (λ a left kept. behind-any (Kept frame) (settled line (applied op kind a (pos 0))) (λ z. give (pushed (Item.Value z) left)) (λ z. kept))
 computed-kept false line op kind frame =
-    behind-value (Kept frame) line frame _ (λ b below kept. behind-value (Kept frame) line below _ 
+    behind-value (Kept frame) line frame _ (λ b below kept. behind-value (Kept frame) line below _
     (λ a left also. behind-any (Kept frame) (settled line (applied op kind a b)) (λ z. give (pushed (Item.Value z) left)) (λ z. also ∙ kept)))
 
 two-kept : (line : ℕ) (make : ℤ → ℤ → ℤ) (frame : Frame) → Gives (Kept frame) (of_two line make frame)

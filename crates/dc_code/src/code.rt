@@ -29,12 +29,25 @@ impl Model for Code {
 
     ghost Value = { CodeLists };
 
-    ghost view = { λ a. record { instructions = a.instructions; texts = a.texts; shapes = a.shapes;
-        bounds = a.bounds; plans = a.plans; entries = a.entries; constructs = a.constructs } };
+    ghost view = { λ a. record {
+      instructions = a.instructions;
+      texts = a.texts;
+      shapes = a.shapes;
+      bounds = a.bounds;
+      plans = a.plans;
+      entries = a.entries;
+      constructs = a.constructs;
+    } };
 
-    ghost invariant = { λ a. IsTrue (are_small (record { instructions = a.instructions; texts = a.texts;
-        shapes = a.shapes; bounds = a.bounds; plans = a.plans; entries = a.entries;
-        constructs = a.constructs })) };
+    ghost invariant = { λ a. IsTrue (are_small (record {
+      instructions = a.instructions;
+      texts = a.texts;
+      shapes = a.shapes;
+      bounds = a.bounds;
+      plans = a.plans;
+      entries = a.entries;
+      constructs = a.constructs;
+    })) };
 }
 
 impl Code {
@@ -50,10 +63,24 @@ impl Code {
         entries: DcList<u32>,
         constructs: DcList<ConstructCode>,
     ) -> Code
-        requires { IsWellFormed (record { instructions = instructions; texts = texts;
-            shapes = shapes; bounds = bounds; plans = plans; entries = entries; constructs = constructs }) }
-        ensures { result ≡ record { instructions = instructions; texts = texts;
-            shapes = shapes; bounds = bounds; plans = plans; entries = entries; constructs = constructs } }
+        requires { IsWellFormed (record {
+          instructions = instructions;
+          texts = texts;
+          shapes = shapes;
+          bounds = bounds;
+          plans = plans;
+          entries = entries;
+          constructs = constructs;
+        }) }
+        ensures { result ≡ record {
+          instructions = instructions;
+          texts = texts;
+          shapes = shapes;
+          bounds = bounds;
+          plans = plans;
+          entries = entries;
+          constructs = constructs;
+        } }
     {
         Code {
             instructions,

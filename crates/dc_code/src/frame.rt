@@ -7,7 +7,11 @@ use dc_int::ElementId;
 #[derive(Clone, Copy, Debug, PartialEq, Eq)]
 pub enum Place {
     Outer(ElementId),
-    InFrame { level: u32, group: u32, position: u32 },
+    InFrame {
+        level: u32,
+        group: u32,
+        position: u32,
+    },
 }
 
 /// What a dummy is associated with.
