@@ -1,5 +1,5 @@
 -- What is done to a unit that is being executed. This project's own.
-use Rattle.std.specs.Prelude.{ℕ, ◌+◌, ◌-◌, Bool, List, [], ◌∷◌, map, take, length, nat_lt, slice_get, slice_set, sum_by, Option, Some, None, option_and_then, false, if◌then◌else◌, ℤ}
+use Rattle.std.specs.Prelude.{ℕ, ◌+◌, ◌-◌, Bool, List, [], ◌∷◌, map, take, length, nat_lt, slice_get, slice_set, Option, Some, None, option_and_then, false, if◌then◌else◌, ℤ}
 use Rattle.dc_int.specs.Store.{changed_at, number_in}
 use Rattle.dc_code.specs.declared.frame.Passed.{Passed}
 use Rattle.dc_code.specs.Frames.{UnitFrame, Frame, with_slots, with_dummies}
@@ -22,10 +22,6 @@ state_in slots group position = number_in (option_and_then (λ cells. slice_get 
 -- The unit with that one slot in this state.
 abbrev pub with_state : ℕ → ℕ → Option ℤ → UnitFrame → UnitFrame
 with_state group position state unit = with_slots (changed_at (λ cells. slice_set cells position state) unit.slots group) unit
-
--- How many slots there are.
-abbrev pub slot_count : Slots → ℕ
-slot_count slots = sum_by length slots
 
 -- The slots with one of them in this state. They are numbered group after group.
 abbrev pub slot_set : ℕ → Option ℤ → Slots → Slots

@@ -10,7 +10,7 @@ ghost use Rattle.dc_code.specs.Operands.{item_off, value_off, position_off};
 ghost use Rattle.dc_code.specs.Reaching.{dummy, group_slots, group_set};
 ghost use Rattle.dc_lists.specs.Output.{written};
 ghost use Rattle.dc_frame.specs.Taking.{taken, subscripts_off, subscripted, has_value_on_top};
-ghost use Rattle.dc_frame.specs.Units.{dummy_set, with_slot, slot_count, restarted};
+ghost use Rattle.dc_frame.specs.Units.{dummy_set, with_slot, restarted};
 
 use crate::open_unit::OpenUnit;
 use crate::starts::plan_at;
