@@ -1,3 +1,5 @@
 pub mod Changing
+pub mod Gathered
 pub mod Innermost
 pub mod Numbered
+pub mod Positions

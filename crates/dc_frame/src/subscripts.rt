@@ -1,6 +1,6 @@
 //! Subscripts, and the positions of elements by them.
 
-ghost use Rattle.std.specs.Prelude.{◌≡◌, ◌≤◌, ◌+◌, ◌*◌, Some, None, IsTrue, MatchBool, IfSome, IsSome, ◌↔◌};
+ghost use Rattle.std.specs.Prelude.{◌≡◌, ◌≤◌, ◌+◌, ◌*◌, Some, None, IsTrue, MatchBool};
 ghost use Rattle.std.specs.Option.{ForSome};
 ghost use Rattle.dc_int.specs.Store.{extent, elements_in, offset_in, joined_position};
 ghost use Rattle.dc_code.specs.Codes.{is_small};
@@ -27,13 +27,13 @@ pub(crate) fn has_elements(bounds: &[(i64, i64)]) -> bool
 }
 
 /// How many subscripts a dimension has.
-fn extent(dimension: (i64, i64)) -> u64
+fn extent(dimension: (i64, i64)) -> u32
     requires some { 1 ≤ extent dimension }
     requires few { extent dimension ≤ 4194304 }
     ensures { result ≡ extent dimension }
 {
     let (low, high) = dimension;
-    high.abs_diff(low) + 1
+    high.abs_diff(low) as u32 + 1
 }
 
 /// How many elements there are within bounds.
@@ -44,19 +44,31 @@ pub(crate) fn elements(bounds: &[(i64, i64)]) -> u32
     if !has_elements(bounds) {
         return 0;
     }
-    let mut size: u64 = 1;
+    let mut size: u32 = 1;
     for dimension in bounds {
         size *= extent(*dimension);
     }
-    size as u32
+    size
 }
 
 /// The position by no subscripts, if there are elements.
 pub(crate) fn first_position(bounds: &[(i64, i64)]) -> Option<u32>
-    ensures value { IfSome result (λ first. first ≡ 0) }
-    ensures some { IsSome result ↔ (1 ≤ elements_in bounds.now) }
+    ensures some { 1 ≤ elements_in bounds.now → result ≡ Some 0 }
+    ensures none { elements_in bounds.now ≡ 0 → result ≡ None }
 {
     if has_elements(bounds) { Some(0) } else { None }
+}
+
+/// How far a subscript is above the least one, where it is within the dimension.
+fn offset(dimension: (i64, i64), subscript: i64) -> Option<u64>
+    ensures { result ≡ offset_in dimension subscript }
+{
+    let (low, high) = dimension;
+    if low <= subscript && subscript <= high {
+        Some(subscript.abs_diff(low))
+    } else {
+        None
+    }
 }
 
 /// The position by a subscript and the position by the later ones.
@@ -65,11 +77,7 @@ pub(crate) fn joined(dimension: (i64, i64), subscript: i64, others: Option<u32>)
     ensures { result
         ≡ joined_position (extent dimension) (offset_in dimension subscript) others }
 {
-    let (low, high) = dimension;
     let others = others?;
-    if subscript < low || high < subscript {
-        return None;
-    }
-    let position = subscript.abs_diff(low) + extent(dimension) * u64::from(others);
-    Some(position as u32)
+    let offset = offset(dimension, subscript)? as u32;
+    Some(offset + extent(dimension) * others)
 }
