@@ -65,8 +65,8 @@ module _ (bounds : Bounds) (first frame : Frame) (k : ℕ) (position : Option �
   off-more left z taken_off line =
       before.off line
       ∙ (ap (λ c. sequence (sequence c (after_last line)) (named_before line bounds before.later)) (taken_off line)
-         ∙ (sequence-then (values_off line k left) (λ (zs, rest). give (zs ++ z ∷ [], rest)) (named_before line bounds before.later)
-            ∙ (λ i. sequence (values_off line k left) (λ w. named line bounds (append_assoc w.0 (z ∷ []) before.later i, w.1)))))
+      ∙ (sequence-then (values_off line k left) (λ (zs, rest). give (zs ++ z ∷ [], rest)) (named_before line bounds before.later)
+      ∙ (λ i. sequence (values_off line k left) (λ w. named line bounds (append_assoc w.0 (z ∷ []) before.later i, w.1)))))
 
   -- the dimension of the subscript, where there is one
   abbrev its_dimension : ℤ × ℤ → ℤ × ℤ
@@ -85,7 +85,7 @@ module _ (bounds : Bounds) (first frame : Frame) (k : ℕ) (position : Option �
         off = off-more left z taken_off;
         some = λ one. joined ∙ (ap join (before.some one) ∙ sym (ap (λ later. position_in later (z ∷ before.later)) (dropped other)));
         none = λ zero_elements.
-          joined ∙ (ap join (before.none zero_elements) ∙ joined-none (extent (its_dimension other)) (offset_in (its_dimension other) z));
+            joined ∙ (ap join (before.none zero_elements) ∙ joined-none (extent (its_dimension other)) (offset_in (its_dimension other) z));
       }
     where
       join : Option ℕ → Option ℕ
@@ -104,7 +104,7 @@ module _ (bounds : Bounds) (first frame : Frame) (k : ℕ) (position : Option �
           let less = position-less (drop (suc k) bounds) before.later others (sym (before.some one) ∙ is) in
           let whole : extent (its_dimension other) * elements_in (drop (suc k) bounds) ≤ elements_in bounds = rw (dropped other) at (elements-later k bounds one) in
           let more : extent (its_dimension other) * (others + 1) ≤ extent (its_dimension other) * elements_in (drop (suc k) bounds) =
-            mul-le-mul_left (extent (its_dimension other)) (omega (arith, less)) in
+          mul-le-mul_left (extent (its_dimension other)) (omega (arith, less)) in
           omega (arith, more, whole, few)
 
 -- ---- at last
@@ -126,10 +126,10 @@ pub positioned-subscripts
     → positioned line (Some bounds) frame ≡ (subscripts_off line bounds frame >>= (λ (position, left). give (pushed (Item.Position position) left)))
 positioned-subscripts line bounds frame =
     sym
-      (sequence-then (values_off line (length bounds) frame) (named line bounds) push
-       ∙ (λ i.
-         sequence (values_off line (length bounds) frame)
-           (λ w. sequence-then (within_bounds line (position_in bounds w.0)) (λ at. give (at, w.1)) push i)))
+    (sequence-then (values_off line (length bounds) frame) (named line bounds) push
+    ∙ (λ i.
+    sequence (values_off line (length bounds) frame)
+    (λ w. sequence-then (within_bounds line (position_in bounds w.0)) (λ at. give (at, w.1)) push i)))
   where
     push : ℕ × Frame → Computing Frame
     push (position, left) = give (pushed (Item.Position position) left)

@@ -2,4 +2,5 @@ pub mod Changing
 pub mod Gathered
 pub mod Innermost
 pub mod Numbered
+pub mod Placed
 pub mod Positions

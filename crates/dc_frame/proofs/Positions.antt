@@ -81,7 +81,7 @@ position-less (dimension ∷ bounds) (subscript ∷ subscripts) position is =
         → joined_position (extent dimension) offset others ≡ Some position → position < extent dimension * elements_in bounds
     by (Some offset) (Some others) low less joined =
         rw (sym (same_Some (offset + extent dimension * others) position joined))
-          (row-less offset others (extent dimension) (elements_in bounds) (low offset refl) (less others refl))
+        (row-less offset others (extent dimension) (elements_in bounds) (low offset refl) (less others refl))
     by (Some offset) None low less joined = absurd (none-some position joined)
     by None others low less joined = absurd (none-some position joined)
 

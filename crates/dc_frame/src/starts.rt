@@ -12,6 +12,13 @@ fn next(number: u32) -> Result<u32, NoMemory>
     number.checked_add(1).ok_or(NoMemory)
 }
 
+/// The number of the plan of a procedure, behind the main program and as many procedures as stand before.
+fn of_procedure(before: usize) -> Result<u32, NoMemory>
+    ensures { IfOk result (λ number. number ≡ before + 1) }
+{
+    next(u32::try_from(before).or(Err(NoMemory))?)
+}
+
 /// How many starts stand before the first that is the place, or how many there are.
 fn place_among(starts: &[u32], place: u32) -> usize
     ensures { result ≡ place_among starts.now place }
@@ -59,7 +66,7 @@ pub(crate) fn plan_at(code: &Code, place: u32) -> Result<u32, NoMemory>
     }
     let entries = code.entries();
     let before = place_among(entries, place);
-    let number = next(u32::try_from(before).or(Err(NoMemory))?)?;
+    let number = of_procedure(before)?;
     if before < entries.len() {
         return Ok(number);
     }

@@ -20,4 +20,4 @@ returns-else-level-len c =
     let none = changed_past change units.items c.args.level (omega (arith, units.ok.0)) in
     sym c.self.view_is
     ∙ (ap (λ units. with_units units (the_view c.self.inside)) none
-       ∙ ap (λ (frame : Frame). with_units (slot_put c.args.level c.args.group c.args.position c.args.state frame.units) frame) c.self.view_is)
+    ∙ ap (λ (frame : Frame). with_units (slot_put c.args.level c.args.group c.args.position c.args.state frame.units) frame) c.self.view_is)
