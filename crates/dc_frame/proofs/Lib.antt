@@ -1,0 +1,6 @@
+pub mod Changing
+pub mod Gathered
+pub mod Innermost
+pub mod Numbered
+pub mod Placed
+pub mod Positions
