@@ -1,8 +1,8 @@
 -- The instructions of an assignment store its value in the places that it has.
-use Rattle.std.proofs.Common.{◌≡◌, ◌<◌, ℕ, zero, suc, ◌+◌, Bool, true, false, ◌&&◌, cond, List, [], ◌∷◌, ◌++◌, length, map, Option, Some, None, refl, sym, ap, ◌∙◌, subst, arith}
+use Rattle.std.proofs.Common.{◌≡◌, ◌<◌, ℕ, zero, suc, ◌+◌, true, ◌&&◌, List, [], ◌∷◌, ◌++◌, length, map, Option, Some, None, refl, sym, ap, ◌∙◌, arith}
 use Rattle.std.proofs.lemmas.Bool.{eqb-true, false≢true}
 use Rattle.std.specs.List.{range_with_len}
-use Rattle.std.specs.Prelude.{ℤ, ◌≤◌, nat_eq}
+use Rattle.std.specs.Prelude.{ℤ, ◌≤◌}
 use Rattle.dc_int.specs.Sorts.{Sort, fitted}
 use Rattle.dc_int.specs.Store.{Bounds, elements_in, position_in}
 use Rattle.dc_code.specs.declared.frame.Item.{Item}
@@ -14,7 +14,7 @@ use Rattle.dc_code.specs.Frames.{Frame, pushed}
 use Rattle.dc_code.specs.Instructions.{behind}
 use Rattle.dc_code.specs.Machine.{machine}
 use Rattle.dc_code.specs.Operands.{values_off}
-use Rattle.dc_code.specs.Reaching.{positioned, within_bounds, element_sort, element_defined, defined_as, all_defined}
+use Rattle.dc_code.specs.Reaching.{positioned, within_bounds, defined_as, all_defined}
 use Rattle.dc_code.specs.Troubles.{Computing}
 use Rattle.dc_tree.specs.Entities.{Entity, outside, slots, dummy, constant, function, subroutine, reduction, nothing, Scope, entity}
 use Rattle.dc_tree.specs.Statements.{Name, Target}
@@ -25,11 +25,11 @@ use Rattle.dc_meaning.specs.Acts as acts
 use Rattle.dc_meaning.specs.Acts.{State}
 use Rattle.dc_meaning.specs.Values.{Callee, value, all_values}
 use Rattle.dc_code.proofs.Sequences.{sequence-then}
-use Rattle.dc_lower.specs.Assigning.{each_code, storing_code, assignment_code, all_usable, takes_values}
+use Rattle.dc_lower.specs.Assigning.{each_code, storing_code, all_usable, takes_values}
 use Rattle.dc_lower.specs.Expressions.{value_code, is_usable}
 use Rattle.dc_lower.specs.Placed.{StandAt, HaveNames, IsOutside}
 use Rattle.dc_lower.proofs.Expressions.{all_pushed, pushed-names, taken-all, element-there, both-true, outer_place_of, outer-places, plus-one, plus-none, behind-two, value-law}
-use Rattle.dc_lower.proofs.Placing.{stand-left, stand-right, stand-rest, stepped, length-both}
+use Rattle.dc_lower.proofs.Placing.{stand-left, stand-right, stand-rest, stepped}
 use Rattle.dc_meaning.proofs.Positions.{position-below}
 
 -- The values of a list of expressions.
@@ -43,10 +43,10 @@ each-law code scope call line at frame state (tree ∷ trees) names stand so K l
     value-law code scope call line at frame state tree names (stand-left (value_code scope tree) (each_code scope trees) stand) (both-true so).0
     (λ w. sequence (sequence (all_values scope call line trees w.1) (λ v. give (w.0 ∷ v.0, v.1))) K)
     (λ z. each-law code scope call line (at + length (value_code scope tree)) (pushed (Item.Value z) frame) state trees (pushed-names (Item.Value z) names)
-        (stand-right at (value_code scope tree) (each_code scope trees) stand) (both-true so).1
-        (λ v. K (z ∷ v.0, v.1))
-        (λ zs long. ap (λ place. machine code place (all_pushed zs (pushed (Item.Value z) frame)) state.turns) (behind-two (value_code scope tree) (each_code scope trees) at) ∙ later (z ∷ zs) (ap suc long))
-        ∙ sym (sequence-then (all_values scope call line trees state) (λ v. give (z ∷ v.0, v.1)) K))
+    (stand-right at (value_code scope tree) (each_code scope trees) stand) (both-true so).1
+    (λ v. K (z ∷ v.0, v.1))
+    (λ zs long. ap (λ place. machine code place (all_pushed zs (pushed (Item.Value z) frame)) state.turns) (behind-two (value_code scope tree) (each_code scope trees) at) ∙ later (z ∷ zs) (ap suc long))
+    ∙ sym (sequence-then (all_values scope call line trees state) (λ v. give (z ∷ v.0, v.1)) K))
     ∙ sym (sequence-then (value scope call line tree state) (λ w. sequence (all_values scope call line trees w.1) (λ v. give (w.0 ∷ v.0, v.1))) K)
 
 -- Each element of a variable is defined with the value.
@@ -59,10 +59,10 @@ unfolding outer_place_of
 defines-law code line variable sort bounds state is z from zero within k K later = later []
 defines-law code line variable sort bounds state is z from (suc many) within k K later =
     ap (λ (found : Option Sort). sequence (sequence (defined_as line (element variable from) z found) (λ first. all_defined code line (map (element variable) (range_with_len (from + 1) many)) z)) (λ done. k))
-        (element-there is from here)
+    (element-there is from here)
     ∙ ap (define (element variable from) (fitted sort z) line)
-        (defines-law code line variable sort bounds state is z (from + 1) many there k (λ v. K (tt ∷ v.0, v.1)) (λ done. later (tt ∷ done))
-        ∙ sym (sequence-then (acts.for_each (λ place. acts.store line place (fitted sort z)) (map (outer_place_of variable) (range_with_len (from + 1) many)) state) (λ v. give (tt ∷ v.0, v.1)) K))
+    (defines-law code line variable sort bounds state is z (from + 1) many there k (λ v. K (tt ∷ v.0, v.1)) (λ done. later (tt ∷ done))
+    ∙ sym (sequence-then (acts.for_each (λ place. acts.store line place (fitted sort z)) (map (outer_place_of variable) (range_with_len (from + 1) many)) state) (λ v. give (tt ∷ v.0, v.1)) K))
   where
     here : from < elements_in bounds
     here = omega (arith, within)
@@ -81,7 +81,7 @@ fill-law code scope call line at frame state variable sort bounds z is stand K l
     ∙ ap (λ n. sequence (sequence (all_defined code line (map (element variable) (range_with_len 0 n)) z) (λ done. give frame)) (λ left. machine code (suc at) left state.turns)) is.elements
     ∙ sequence-then (all_defined code line (map (element variable) (range_with_len 0 (elements_in bounds))) z) (λ done. give frame) (λ left. machine code (suc at) left state.turns)
     ∙ defines-law code line variable sort bounds state is z 0 (elements_in bounds) (omega arith) (machine code (suc at) frame state.turns) (λ v. K (on, v.1))
-        (λ done. ap (λ place. machine code place frame state.turns) (plus-one at) ∙ later)
+    (λ done. ap (λ place. machine code place frame state.turns) (plus-one at) ∙ later)
     ∙ sym (sequence-then (acts.for_each (λ place. acts.store line place (fitted sort z)) (map (outer_place_of variable) (range_with_len 0 (elements_in bounds))) state) (λ v. give (on, v.1)) K)
     ∙ ap (λ c. sequence (sequence c (λ w. sequence (acts.for_each (λ place. acts.store line place (fitted sort z)) w.0 w.1) (λ v. give (on, v.1)))) K) (sym (outer-places line variable sort bounds 0 (elements_in bounds) state))
 
@@ -90,7 +90,7 @@ store-law : (code : CodeLists) (line at : ℕ) (frame : Frame) (state : State) (
     → (K : Flow × State → Computing (Frame × ℕ)) → machine code (at + 2) frame state.turns ≡ K (on, state)
     → machine code at (all_pushed zs (pushed (Item.Value z) frame)) state.turns
     ≡ sequence (sequence (element_at line (outside variable sort bounds) zs state)
-        (λ w. sequence (acts.for_each (λ place. acts.store line place (fitted sort z)) (w.0 ∷ []) w.1) (λ v. give (on, v.1)))) K
+    (λ w. sequence (acts.for_each (λ place. acts.store line place (fitted sort z)) (w.0 ∷ []) w.1) (λ v. give (on, v.1)))) K
 store-law code line at frame state variable sort bounds z zs is ranked stand K later =
     stepped at (What.Subscript variable) (What.Store variable ∷ []) (all_pushed zs (pushed (Item.Value z) frame)) state.turns stand
     ∙ ap (λ found. behind (machine code) at state.turns (positioned line found (all_pushed zs (pushed (Item.Value z) frame)))) is.bounds
@@ -107,12 +107,12 @@ store-law code line at frame state variable sort bounds z zs is ranked stand K l
     placed : (found : Option ℕ) → position_in bounds zs ≡ found
         → sequence (sequence (within_bounds line (position_in bounds zs)) (λ at. give (pushed (Item.Position at) (pushed (Item.Value z) frame)))) (λ left. machine code (suc at) left state.turns)
         ≡ sequence (sequence (element_at line (outside variable sort bounds) zs state)
-            (λ w. sequence (acts.for_each (λ place. acts.store line place (fitted sort z)) (w.0 ∷ []) w.1) (λ v. give (on, v.1)))) K
+        (λ w. sequence (acts.for_each (λ place. acts.store line place (fitted sort z)) (w.0 ∷ []) w.1) (λ v. give (on, v.1)))) K
     placed None e = rw e refl
     placed (Some position) e = rw e (
         stepped (suc at) (What.Store variable) [] (pushed (Item.Position position) (pushed (Item.Value z) frame)) state.turns (stand-rest at (What.Subscript variable) (What.Store variable ∷ []) stand)
         ∙ ap (λ found. sequence (sequence (defined_as line (element variable position) z found) (λ done. give frame)) (λ left. machine code (suc (suc at)) left state.turns))
-            (element-there is position (position-below bounds zs position e))
+        (element-there is position (position-below bounds zs position e))
         ∙ ap (define (element variable position) (fitted sort z) line) (ap (λ place. machine code place frame state.turns) (two-on at) ∙ later))
 
 storing-law : (code : CodeLists) (scope : Scope) (call : Callee) (line at : ℕ) (frame : Frame) (state : State) (text : Name) (variable : ℕ) (sort : Sort) (bounds : Bounds)
@@ -123,7 +123,7 @@ storing-law : (code : CodeLists) (scope : Scope) (call : Callee) (line at : ℕ)
     → machine code (at + length (storing_code scope (outside variable sort bounds) subscripts)) frame state.turns ≡ K (on, state)
     → machine code at (pushed (Item.Value z) frame) state.turns
     ≡ sequence (sequence (places_of scope call line (outside variable sort bounds) subscripts state)
-        (λ w. sequence (acts.for_each (λ place. acts.store line place (fitted sort z)) w.0 w.1) (λ v. give (on, v.1)))) K
+    (λ w. sequence (acts.for_each (λ place. acts.store line place (fitted sort z)) w.0 w.1) (λ v. give (on, v.1)))) K
 storing-law code scope call line at frame state text variable sort bounds None z e names stand so K later =
     fill-law code scope call line at frame state variable sort bounds z (names.outer text variable sort bounds e) stand K later
 storing-law code scope call line at frame state text variable sort bounds (Some trees) z e names stand so K later =
@@ -131,9 +131,9 @@ storing-law code scope call line at frame state text variable sort bounds (Some 
     (stand-left (each_code scope trees) behind_them stand) (both-true so).1
     (λ w. sequence (sequence (placed w) storing) K)
     (λ zs long. store-law code line (at + length (each_code scope trees)) frame state variable sort bounds z zs (names.outer text variable sort bounds e)
-        (long ∙ sym (eqb-true (length bounds) (length trees) (both-true so).0)) (stand-right at (each_code scope trees) behind_them stand) K
-        (ap (λ place. machine code place frame state.turns) (behind-two (each_code scope trees) behind_them at) ∙ later)
-        ∙ ap (λ c. sequence c K) (sym (sequence-then (element_at line (outside variable sort bounds) zs state) (λ v. give (v.0 ∷ [], v.1)) storing)))
+    (long ∙ sym (eqb-true (length bounds) (length trees) (both-true so).0)) (stand-right at (each_code scope trees) behind_them stand) K
+    (ap (λ place. machine code place frame state.turns) (behind-two (each_code scope trees) behind_them at) ∙ later)
+    ∙ ap (λ c. sequence c K) (sym (sequence-then (element_at line (outside variable sort bounds) zs state) (λ v. give (v.0 ∷ [], v.1)) storing)))
     ∙ sym (sequence-then (all_values scope call line trees state) (λ w. sequence (placed w) storing) K)
     ∙ ap (λ c. sequence c K) (sym (sequence-then (all_values scope call line trees state) placed storing))
   where
@@ -156,8 +156,8 @@ assignment-law code scope call line at frame state target tree (outside variable
     value-law code scope call line at frame state tree names (stand-left (value_code scope tree) behind_it stand) (both-true so).0
     (λ w. sequence (storing w) K)
     (λ z. storing-law code scope call line (at + length (value_code scope tree)) frame state target.name variable sort bounds target.subscripts z e names
-        (stand-right at (value_code scope tree) behind_it stand) (both-true so).1 K
-        (ap (λ place. machine code place frame state.turns) (behind-two (value_code scope tree) behind_it at) ∙ later))
+    (stand-right at (value_code scope tree) behind_it stand) (both-true so).1 K
+    (ap (λ place. machine code place frame state.turns) (behind-two (value_code scope tree) behind_it at) ∙ later))
     ∙ sym (sequence-then (value scope call line tree state) storing K)
   where
     behind_it : List What

@@ -2,7 +2,7 @@
 use Rattle.std.proofs.Common.{◌≡◌, ◌<◌, ℕ, zero, suc, ◌+◌, ◌-◌, Bool, true, false, ◌&&◌, cond, List, [], ◌∷◌, ◌++◌, length, Option, Some, None, refl, sym, ap, ◌∙◌, subst, arith}
 use Rattle.std.proofs.lemmas.Bool.{lt-ltb, ltb-true, eqb-true, false≢true}
 use Rattle.std.specs.List.{range_with_len}
-use Rattle.std.specs.Prelude.{ℤ, pos, map, ◌≤◌, Ok, Err, nat_eq, nat_lt, is_some, slice_get}
+use Rattle.std.specs.Prelude.{ℤ, pos, map, ◌≤◌, Ok, Err, nat_eq, nat_lt, is_some}
 use Rattle.dc_int.specs.declared.access.ElementId.{ElementId}
 use Rattle.dc_int.specs.declared.kind.Kind.{Kind}
 use Rattle.dc_int.specs.declared.operation.Op.{Op}
@@ -30,7 +30,7 @@ use Rattle.dc_code.specs.Frames.{Frame, pushed, level, slot_of}
 use Rattle.dc_code.specs.Machine.{machine}
 use Rattle.dc_code.specs.declared.instr.Folding.{Folding}
 use Rattle.dc_code.specs.Instructions.{folded, folding_pushed, slot_folding_pushed, act, behind, computed, settled, takes_one}
-use Rattle.dc_code.specs.Operands.{values_off, value_off, required, stuck}
+use Rattle.dc_code.specs.Operands.{values_off, required, stuck}
 use Rattle.dc_code.specs.Reaching.{positioned, within_bounds, element_sort, sort_of_shape, group_planned, group_bounds, all_read, all_required}
 use Rattle.dc_lower.specs.Placed.{StandAt, HaveNames, IsOutside, IsGroup}
 use Rattle.dc_tree.specs.Entities.{Entity, outside, slots, dummy, constant, function, subroutine, reduction, nothing, Scope, entity}
@@ -172,7 +172,7 @@ outside-law code call line at frame state variable sort bounds zs stand is ranke
     placed (Some position) e = rw e (
         stepped (suc at) (What.Load variable) [] (pushed (Item.Position position) frame) state.turns (stand-rest at (What.Subscript variable) (What.Load variable ∷ []) stand)
         ∙ ap (λ found. sequence (sequence (cond (is_some found) (read (element variable position) line (required line)) (stuck line)) (λ z. give (pushed (Item.Value z) frame))) (λ left. machine code (suc (suc at)) left state.turns))
-            (element-there is position (position-below bounds zs position e))
+        (element-there is position (position-below bounds zs position e))
         ∙ (λ i. read (element variable position) line (λ z. answered (element variable position) z i)))
 
 all-units : (zs : List ℤ) (frame : Frame) → (all_pushed zs frame).units ≡ frame.units
@@ -420,7 +420,7 @@ fold-law code line at frame state folding of_values variable sort bounds is same
     ∙ ap (λ n. sequence (sequence (all_read code line (map (element variable) (range_with_len 0 n))) (λ zs. give (pushed (Item.Value (folded folding (is.shape).kind zs)) frame))) (λ left. machine code (suc at) left state.turns)) is.elements
     ∙ sequence-then (all_read code line (map (element variable) (range_with_len 0 (elements_in bounds)))) (λ zs. give (pushed (Item.Value (folded folding (is.shape).kind zs)) frame)) (λ left. machine code (suc at) left state.turns)
     ∙ reads-law code line variable sort bounds state is 0 (elements_in bounds) (omega arith) (λ zs. machine code (suc at) (pushed (Item.Value (folded folding (is.shape).kind zs)) frame) state.turns)
-        (λ w. K (of_values w.0, w.1)) (λ zs. ap (λ z. machine code (suc at) (pushed (Item.Value z) frame) state.turns) (same is zs) ∙ ap (λ place. machine code place (pushed (Item.Value (of_values zs)) frame) state.turns) (plus-one at) ∙ later (of_values zs))
+    (λ w. K (of_values w.0, w.1)) (λ zs. ap (λ z. machine code (suc at) (pushed (Item.Value z) frame) state.turns) (same is zs) ∙ ap (λ place. machine code place (pushed (Item.Value (of_values zs)) frame) state.turns) (plus-one at) ∙ later (of_values zs))
     ∙ sym (sequence-then (acts.for_each (acts.refer_to line) (map (outer_place_of variable) (range_with_len 0 (elements_in bounds))) state) (λ w. give (of_values w.0, w.1)) K)
     ∙ ap (λ c. sequence (sequence (sequence c (λ w. acts.for_each (acts.refer_to line) w.0 w.1)) (λ w. give (of_values w.0, w.1))) K) (sym (outer-places line variable sort bounds 0 (elements_in bounds) state))
 
@@ -472,7 +472,7 @@ fold-slot-law code line at frame state folding of_values group sort bounds is sa
     ∙ ap (λ states. sequence (sequence (all_required line states) (λ zs. give (pushed (Item.Value (folded folding (is.planned).kind zs)) frame))) (λ left. machine code (suc at) left state.turns)) is.all
     ∙ sequence-then (all_required line (map slot (range_with_len 0 (elements_in bounds)))) (λ zs. give (pushed (Item.Value (folded folding (is.planned).kind zs)) frame)) (λ left. machine code (suc at) left state.turns)
     ∙ slot-reads-law line group slot state is.same 0 (elements_in bounds) (λ zs. machine code (suc at) (pushed (Item.Value (folded folding (is.planned).kind zs)) frame) state.turns)
-        (λ w. K (of_values w.0, w.1)) (λ zs. ap (λ z. machine code (suc at) (pushed (Item.Value z) frame) state.turns) (same is zs) ∙ ap (λ place. machine code place (pushed (Item.Value (of_values zs)) frame) state.turns) (plus-one at) ∙ later (of_values zs))
+    (λ w. K (of_values w.0, w.1)) (λ zs. ap (λ z. machine code (suc at) (pushed (Item.Value z) frame) state.turns) (same is zs) ∙ ap (λ place. machine code place (pushed (Item.Value (of_values zs)) frame) state.turns) (plus-one at) ∙ later (of_values zs))
     ∙ sym (sequence-then (acts.for_each (acts.refer_to line) (map (slot_place_of (length state.frames - 1) group) (range_with_len 0 (elements_in bounds))) state) (λ w. give (of_values w.0, w.1)) K)
     ∙ ap (λ c. sequence (sequence (sequence c (λ w. acts.for_each (acts.refer_to line) w.0 w.1)) (λ w. give (of_values w.0, w.1))) K) (sym (slot-places line group sort bounds 0 (elements_in bounds) state))
   where
@@ -601,32 +601,32 @@ function-law : (code : CodeLists) (scope : Scope) (call : Callee) (line at : ℕ
     → StandAt code line at (function_code scope function args (first_sort (sorts_of scope args)) (values_code scope args) (first_code scope args) (λ op its_kind. chosen_code scope op its_kind args))
     → takes_so scope function args (are_usable scope args) (first_usable scope args) ≡ true
     → Law code at (function_code scope function args (first_sort (sorts_of scope args)) (values_code scope args) (first_code scope args) (λ op its_kind. chosen_code scope op its_kind args)) frame state
-        (intrinsic_value scope line function args (first_value scope call line args) (values scope call line args) state)
+    (intrinsic_value scope line function args (first_value scope call line args) (values scope call line args) state)
 function-law code scope call line at frame state args (operation op) names law stand so K later =
     let sort = first_sort (sorts_of scope args) in
     law.all_values (stand-left (values_code scope args) (What.Arith op (kind_of sort) ∷ []) stand) (both-true so).1
-        (λ w. sequence (meanings.settled line (called (operation op) sort w.0) w.1) K)
-        (λ zs long. operation-law code line (at + length (values_code scope args)) frame state op sort zs (count_of args) (both-true so).0 long
-            (stand-right at (values_code scope args) (What.Arith op (kind_of sort) ∷ []) stand) K
-            (λ z. ap (λ place. machine code place (pushed (Item.Value z) frame) state.turns) (further-place at (length (values_code scope args)) 1 ∙ ap (λ n. at + n) (sym (length-both (values_code scope args) (What.Arith op (kind_of sort) ∷ [])))) ∙ later z))
+    (λ w. sequence (meanings.settled line (called (operation op) sort w.0) w.1) K)
+    (λ zs long. operation-law code line (at + length (values_code scope args)) frame state op sort zs (count_of args) (both-true so).0 long
+    (stand-right at (values_code scope args) (What.Arith op (kind_of sort) ∷ []) stand) K
+    (λ z. ap (λ place. machine code place (pushed (Item.Value z) frame) state.turns) (further-place at (length (values_code scope args)) 1 ∙ ap (λ n. at + n) (sym (length-both (values_code scope args) (What.Arith op (kind_of sort) ∷ [])))) ∙ later z))
     ∙ sym (sequence-then (values scope call line args state) (λ w. meanings.settled line (called (operation op) sort w.0) w.1) K)
 function-law code scope call line at frame state args (chosen op) names law stand so K later =
     law.least op (first_sort (sorts_of scope args)) (both-true so).0 stand (both-true (both-true so).1).1 (both-true (both-true so).1).0 K later
 function-law code scope call line at frame state args merge names law stand so K later =
     let sort = first_sort (sorts_of scope args) in
     law.all_values (stand-left (values_code scope args) (What.Merge ∷ []) stand) (both-true so).1
-        (λ w. sequence (meanings.settled line (called merge sort w.0) w.1) K)
-        (λ zs long. merge-law code line (at + length (values_code scope args)) frame state sort zs (long ∙ eqb-true (count_of args) 3 (both-true so).0)
-            (stand-right at (values_code scope args) (What.Merge ∷ []) stand) K
-            (λ z. ap (λ place. machine code place (pushed (Item.Value z) frame) state.turns) (further-place at (length (values_code scope args)) 1 ∙ ap (λ n. at + n) (sym (length-both (values_code scope args) (What.Merge ∷ [])))) ∙ later z))
+    (λ w. sequence (meanings.settled line (called merge sort w.0) w.1) K)
+    (λ zs long. merge-law code line (at + length (values_code scope args)) frame state sort zs (long ∙ eqb-true (count_of args) 3 (both-true so).0)
+    (stand-right at (values_code scope args) (What.Merge ∷ []) stand) K
+    (λ z. ap (λ place. machine code place (pushed (Item.Value z) frame) state.turns) (further-place at (length (values_code scope args)) 1 ∙ ap (λ n. at + n) (sym (length-both (values_code scope args) (What.Merge ∷ [])))) ∙ later z))
     ∙ sym (sequence-then (values scope call line args state) (λ w. meanings.settled line (called merge sort w.0) w.1) K)
 function-law code scope call line at frame state args converted names law stand so K later =
     let wrap = What.Wrap (kind_converted (constants_of scope args)) in
     law.first (stand-left (first_code scope args) (wrap ∷ []) stand) (both-true so).1
-        (λ w. K (wrapped (kind_converted (constants_of scope args)) w.0, w.1))
-        (λ z. gives-law code line (at + length (first_code scope args)) frame (pushed (Item.Value z) frame) state wrap (wrapped (kind_converted (constants_of scope args)) z)
-            (stand-right at (first_code scope args) (wrap ∷ []) stand) refl K
-            (λ z. ap (λ place. machine code place (pushed (Item.Value z) frame) state.turns) (further-place at (length (first_code scope args)) 1 ∙ ap (λ n. at + n) (sym (length-both (first_code scope args) (wrap ∷ [])))) ∙ later z))
+    (λ w. K (wrapped (kind_converted (constants_of scope args)) w.0, w.1))
+    (λ z. gives-law code line (at + length (first_code scope args)) frame (pushed (Item.Value z) frame) state wrap (wrapped (kind_converted (constants_of scope args)) z)
+    (stand-right at (first_code scope args) (wrap ∷ []) stand) refl K
+    (λ z. ap (λ place. machine code place (pushed (Item.Value z) frame) state.turns) (further-place at (length (first_code scope args)) 1 ∙ ap (λ n. at + n) (sym (length-both (first_code scope args) (wrap ∷ [])))) ∙ later z))
     ∙ sym (sequence-then (first_value scope call line args state) (λ w. give (wrapped (kind_converted (constants_of scope args)) w.0, w.1)) K)
 function-law code scope call line at frame state args huge names law stand so K later = number-law code line at frame state _ _ stand K later
 function-law code scope call line at frame state args bit_size names law stand so K later = number-law code line at frame state _ _ stand K later
@@ -736,8 +736,8 @@ refer-declared code scope call line at frame state text args found e names stand
     law.all_values (stand-left (values_code scope args) (entity_code found) stand) (both-true so).1
     (λ w. sequence (refer_value call line found w.0 w.1) K)
     (λ zs long. entity-law code scope call line (at + length (values_code scope args)) frame state text found zs e names (stand-right at (values_code scope args) (entity_code found) stand)
-        (subst (λ n. gives_value found n ≡ true) (sym long) (both-true so).0) K
-        (λ z. ap (λ place. machine code place (pushed (Item.Value z) frame) state.turns) (behind-two (values_code scope args) (entity_code found) at) ∙ later z))
+    (subst (λ n. gives_value found n ≡ true) (sym long) (both-true so).0) K
+    (λ z. ap (λ place. machine code place (pushed (Item.Value z) frame) state.turns) (behind-two (values_code scope args) (entity_code found) at) ∙ later z))
     ∙ sym (sequence-then (values scope call line args state) (λ w. refer_value call line found w.0 w.1) K)
 
 refer-law : (code : CodeLists) (scope : Scope) (call : Callee) (line at : ℕ) (frame : Frame) (state : State) (text : Name) (args : Args) (found : Entity) (function_of : Option Intrinsic)
@@ -746,7 +746,7 @@ refer-law : (code : CodeLists) (scope : Scope) (call : Callee) (line at : ℕ) (
     → refers_so scope found function_of args (are_usable scope args) (first_usable scope args) ≡ true
     → ArgumentsLaw code scope call line at frame state args
     → Law code at (referred_code scope found function_of args (values_code scope args) (first_code scope args) (λ op its_kind. chosen_code scope op its_kind args)) frame state
-        (referred scope call line found function_of args (first_value scope call line args) (values scope call line args) state)
+    (referred scope call line found function_of args (first_value scope call line args) (values scope call line args) state)
 refer-law code scope call line at frame state text args nothing (Some function_of) e names stand so law K later =
     function-law code scope call line at frame state args function_of names law stand so K later
 refer-law code scope call line at frame state text args nothing None e names stand so law K later = refer-declared code scope call line at frame state text args nothing e names stand so law K later
@@ -766,7 +766,7 @@ chosen-step : (code : CodeLists) (scope : Scope) (call : Callee) (line at : ℕ)
     → chooses op ≡ true → StandAt code line at (What.Arith op (kind_of sort) ∷ further_code scope op (kind_of sort) rest)
     → (K : ℤ × State → Computing (Frame × ℕ))
     → ((z : ℤ) → machine code (suc at) (pushed (Item.Value z) frame) state.turns
-        ≡ sequence (sequence (values scope call line rest state) (λ v. meanings.settled line (chosen_from op sort z v.0) v.1)) K)
+    ≡ sequence (sequence (values scope call line rest state) (λ v. meanings.settled line (chosen_from op sort z v.0) v.1)) K)
     → machine code at (pushed (Item.Value b) (pushed (Item.Value a) frame)) state.turns
     ≡ sequence (sequence (values scope call line rest state) (λ v. meanings.settled line (chosen_from op sort a (b ∷ v.0)) v.1)) K
 chosen-step code scope call line at frame state rest op sort a b so stand K later =
@@ -814,17 +814,17 @@ mutual
       entity-law code scope call line at frame state text (entity scope text) [] refl names stand so K later
   value-law code scope call line at frame state (refer text args) names stand so K later =
       refer-law code scope call line at frame state text args (entity scope text) (intrinsic text) refl names stand so (record {
-          all_values = values-law code scope call line at frame state args names;
-          first = first-law code scope call line at frame state args names;
-          least = least-law code scope call line at frame state args names;
+        all_values = values-law code scope call line at frame state args names;
+        first = first-law code scope call line at frame state args names;
+        least = least-law code scope call line at frame state args names;
       }) K later
   value-law code scope call line at frame state (paren inside) names stand so K later = value-law code scope call line at frame state inside names stand so K later
   value-law code scope call line at frame state (unary mark right) names stand so K later =
       value-law code scope call line at frame state right names (stand-left (value_code scope right) (led_code mark (sort_of scope right)) stand) so
       (λ w. sequence (meanings.settled line (led_by mark (sort_of scope right) w.0) w.1) K)
       (λ a. led-law code line (at + length (value_code scope right)) frame state mark (sort_of scope right) a
-          (stand-right at (value_code scope right) (led_code mark (sort_of scope right)) stand) K
-          (λ z. ap (λ place. machine code place (pushed (Item.Value z) frame) state.turns) (behind-two (value_code scope right) (led_code mark (sort_of scope right)) at) ∙ later z))
+      (stand-right at (value_code scope right) (led_code mark (sort_of scope right)) stand) K
+      (λ z. ap (λ place. machine code place (pushed (Item.Value z) frame) state.turns) (behind-two (value_code scope right) (led_code mark (sort_of scope right)) at) ∙ later z))
       ∙ sym (sequence-then (value scope call line right state) (λ w. meanings.settled line (led_by mark (sort_of scope right) w.0) w.1) K)
   value-law code scope call line at frame state (binary mark left right) names stand so K later =
       let sort = joined (sort_of scope left) (sort_of scope right) in
@@ -834,11 +834,11 @@ mutual
       value-law code scope call line at frame state left names (stand-left first (second ++ third) stand) (both-true so).0
       (λ w. sequence (sequence (value scope call line right w.1) (λ v. meanings.settled line (joined_by mark sort w.0 v.0) v.1)) K)
       (λ a. value-law code scope call line (at + length first) (pushed (Item.Value a) frame) state right (pushed-names (Item.Value a) names)
-          (stand-left second third (stand-right at first (second ++ third) stand)) (both-true so).1
-          (λ v. sequence (meanings.settled line (joined_by mark sort a v.0) v.1) K)
-          (λ b. joined-law code line (at + length first + length second) frame state mark sort a b (stand-right (at + length first) second third (stand-right at first (second ++ third) stand)) K
-              (λ z. ap (λ place. machine code place (pushed (Item.Value z) frame) state.turns) (ap (λ n. at + length first + length second + n) (sym (joined-length mark sort)) ∙ behind-three first second third at) ∙ later z))
-          ∙ sym (sequence-then (value scope call line right state) (λ v. meanings.settled line (joined_by mark sort a v.0) v.1) K))
+      (stand-left second third (stand-right at first (second ++ third) stand)) (both-true so).1
+      (λ v. sequence (meanings.settled line (joined_by mark sort a v.0) v.1) K)
+      (λ b. joined-law code line (at + length first + length second) frame state mark sort a b (stand-right (at + length first) second third (stand-right at first (second ++ third) stand)) K
+      (λ z. ap (λ place. machine code place (pushed (Item.Value z) frame) state.turns) (ap (λ n. at + length first + length second + n) (sym (joined-length mark sort)) ∙ behind-three first second third at) ∙ later z))
+      ∙ sym (sequence-then (value scope call line right state) (λ v. meanings.settled line (joined_by mark sort a v.0) v.1) K))
       ∙ sym (sequence-then (value scope call line left state) (λ w. sequence (value scope call line right w.1) (λ v. meanings.settled line (joined_by mark sort w.0 v.0) v.1)) K)
 
   pub values-law : (code : CodeLists) (scope : Scope) (call : Callee) (line at : ℕ) (frame : Frame) (state : State) (args : Args) → HaveNames code scope frame state
@@ -851,10 +851,10 @@ mutual
       value-law code scope call line at frame state given names (stand-left (value_code scope given) (values_code scope rest) stand) (both-true so).0
       (λ w. sequence (sequence (values scope call line rest w.1) (λ v. give (w.0 ∷ v.0, v.1))) K)
       (λ z. values-law code scope call line (at + length (value_code scope given)) (pushed (Item.Value z) frame) state rest (pushed-names (Item.Value z) names)
-          (stand-right at (value_code scope given) (values_code scope rest) stand) (both-true so).1
-          (λ v. K (z ∷ v.0, v.1))
-          (λ zs long. ap (λ place. machine code place (all_pushed zs (pushed (Item.Value z) frame)) state.turns) (behind-two (value_code scope given) (values_code scope rest) at) ∙ later (z ∷ zs) (ap suc long))
-          ∙ sym (sequence-then (values scope call line rest state) (λ v. give (z ∷ v.0, v.1)) K))
+      (stand-right at (value_code scope given) (values_code scope rest) stand) (both-true so).1
+      (λ v. K (z ∷ v.0, v.1))
+      (λ zs long. ap (λ place. machine code place (all_pushed zs (pushed (Item.Value z) frame)) state.turns) (behind-two (value_code scope given) (values_code scope rest) at) ∙ later (z ∷ zs) (ap suc long))
+      ∙ sym (sequence-then (values scope call line rest state) (λ v. give (z ∷ v.0, v.1)) K))
       ∙ sym (sequence-then (value scope call line given state) (λ w. sequence (values scope call line rest w.1) (λ v. give (w.0 ∷ v.0, v.1))) K)
 
   first-law : (code : CodeLists) (scope : Scope) (call : Callee) (line at : ℕ) (frame : Frame) (state : State) (args : Args) → HaveNames code scope frame state
@@ -873,9 +873,9 @@ mutual
       value-law code scope call line at (pushed (Item.Value a) frame) state given (pushed-names (Item.Value a) names) (stand-left first (step ∷ second) stand) (both-true so).0
       (λ w. sequence (sequence (sequence (values scope call line rest w.1) (λ v. give (w.0 ∷ v.0, v.1))) (λ v. meanings.settled line (chosen_from op sort a v.0) v.1)) K)
       (λ b. chosen-step code scope call line (at + length first) frame state rest op sort a b chosen_so (stand-right at first (step ∷ second) stand) K
-          (λ z. further-law code scope call line (suc (at + length first)) frame state rest names op sort z chosen_so (stand-rest (at + length first) step second (stand-right at first (step ∷ second) stand)) (both-true so).1 K
-              (λ z. ap (λ place. machine code place (pushed (Item.Value z) frame) state.turns) (one-later at (length first) (length second) ∙ ap (λ n. at + n) (sym (length-both first (step ∷ second)))) ∙ later z))
-          ∙ ap (λ c. sequence c K) (sym (sequence-then (values scope call line rest state) (λ v. give (b ∷ v.0, v.1)) (λ v. meanings.settled line (chosen_from op sort a v.0) v.1))))
+      (λ z. further-law code scope call line (suc (at + length first)) frame state rest names op sort z chosen_so (stand-rest (at + length first) step second (stand-right at first (step ∷ second) stand)) (both-true so).1 K
+      (λ z. ap (λ place. machine code place (pushed (Item.Value z) frame) state.turns) (one-later at (length first) (length second) ∙ ap (λ n. at + n) (sym (length-both first (step ∷ second)))) ∙ later z))
+      ∙ ap (λ c. sequence c K) (sym (sequence-then (values scope call line rest state) (λ v. give (b ∷ v.0, v.1)) (λ v. meanings.settled line (chosen_from op sort a v.0) v.1))))
       ∙ sym (sequence-then (value scope call line given state) (λ w. sequence (sequence (values scope call line rest w.1) (λ v. give (w.0 ∷ v.0, v.1))) (λ v. meanings.settled line (chosen_from op sort a v.0) v.1)) K)
       ∙ ap (λ c. sequence c K) (sym (sequence-then (value scope call line given state) (λ w. sequence (values scope call line rest w.1) (λ v. give (w.0 ∷ v.0, v.1))) (λ v. meanings.settled line (chosen_from op sort a v.0) v.1)))
 
@@ -892,7 +892,7 @@ mutual
       value-law code scope call line at frame state given names (stand-left first second stand) (both-true so).0
       (λ w. sequence (sequence (sequence (values scope call line rest w.1) (λ v. give (w.0 ∷ v.0, v.1))) (λ v. meanings.settled line (called (chosen op) sort v.0) v.1)) K)
       (λ a. further-law code scope call line (at + length first) frame state rest names op sort a chosen_so (stand-right at first second stand) (both-true so).1 K
-          (λ z. ap (λ place. machine code place (pushed (Item.Value z) frame) state.turns) (behind-two first second at) ∙ later z)
-          ∙ ap (λ c. sequence c K) (sym (sequence-then (values scope call line rest state) (λ v. give (a ∷ v.0, v.1)) (λ v. meanings.settled line (called (chosen op) sort v.0) v.1))))
+      (λ z. ap (λ place. machine code place (pushed (Item.Value z) frame) state.turns) (behind-two first second at) ∙ later z)
+      ∙ ap (λ c. sequence c K) (sym (sequence-then (values scope call line rest state) (λ v. give (a ∷ v.0, v.1)) (λ v. meanings.settled line (called (chosen op) sort v.0) v.1))))
       ∙ sym (sequence-then (value scope call line given state) (λ w. sequence (sequence (values scope call line rest w.1) (λ v. give (w.0 ∷ v.0, v.1))) (λ v. meanings.settled line (called (chosen op) sort v.0) v.1)) K)
       ∙ ap (λ c. sequence c K) (sym (sequence-then (value scope call line given state) (λ w. sequence (values scope call line rest w.1) (λ v. give (w.0 ∷ v.0, v.1))) (λ v. meanings.settled line (called (chosen op) sort v.0) v.1)))

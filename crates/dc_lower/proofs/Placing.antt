@@ -1,9 +1,7 @@
 -- Where parts of instructions stand, and the machine's next step there.
-use Rattle.std.proofs.Common.{◌≡◌, ◌<◌, ℕ, zero, suc, ◌+◌, List, [], ◌∷◌, ◌++◌, length, Option, Some, None, refl, sym, ap, ◌∙◌, subst, arith}
+use Rattle.std.proofs.Common.{◌≡◌, ℕ, zero, suc, ◌+◌, List, [], ◌∷◌, ◌++◌, length, Some, refl, ap, ◌∙◌, subst, arith}
 use Rattle.std.proofs.lemmas.Option.{none-some}
-use Rattle.std.specs.Prelude.{ℤ, slice_get}
-use Rattle.dc_code.specs.Troubles.{Computing}
-use Rattle.dc_code.specs.declared.instr.Instr.{Instr}
+use Rattle.std.specs.Prelude.{slice_get}
 use Rattle.dc_code.specs.declared.instr.What.{What}
 use Rattle.dc_code.specs.Codes.{CodeLists}
 use Rattle.dc_code.specs.Frames.{Frame}

@@ -1,9 +1,8 @@
 -- The instructions of an output statement write its line.
-use Rattle.std.proofs.Common.{◌≡◌, ◌<◌, ℕ, zero, suc, ◌+◌, Bool, true, false, ◌&&◌, cond, List, [], ◌∷◌, ◌++◌, length, map, flat_map, Option, Some, None, refl, sym, ap, ◌∙◌, subst, arith}
+use Rattle.std.proofs.Common.{◌≡◌, ℕ, suc, ◌+◌, Bool, true, false, cond, List, [], ◌∷◌, ◌++◌, length, map, flat_map, Some, refl, sym, ap, ◌∙◌, subst, arith}
 use Rattle.std.proofs.lemmas.Bool.{false≢true}
 use Rattle.std.specs.List.{range_with_len}
 use Rattle.std.specs.Prelude.{ℤ, slice_get, not}
-use Rattle.dc_int.specs.declared.variable.Shape.{Shape}
 use Rattle.dc_int.specs.Sorts.{Sort, whole, logical}
 use Rattle.dc_int.specs.Store.{Bounds, elements_in}
 use Rattle.dc_code.specs.declared.frame.Item.{Item}
@@ -21,8 +20,8 @@ use Rattle.dc_tree.specs.Entities.{Entity, outside, slots, dummy, constant, func
 use Rattle.dc_tree.specs.Statements.{Name}
 use Rattle.dc_tree.specs.Syntax.{Tree, number, chars, name, refer, paren, unary, binary}
 use Rattle.dc_tree.specs.Syntax as syntax
-use Rattle.dc_tree.specs.Typing.{sort_of, sort_of_entity}
-use Rattle.dc_meaning.specs.Actions.{Flow, on, piece, pieces, named_pieces, is_array, printing}
+use Rattle.dc_tree.specs.Typing.{sort_of_entity}
+use Rattle.dc_meaning.specs.Actions.{Flow, on, piece, pieces, is_array, printing}
 use Rattle.dc_meaning.specs.Acts as acts
 use Rattle.dc_meaning.specs.Acts.{State}
 use Rattle.dc_meaning.specs.OutputPieces as output_pieces
@@ -32,8 +31,8 @@ use Rattle.dc_meaning.specs.Values.{Callee, value}
 use Rattle.dc_lower.specs.Expressions.{value_code, is_usable}
 use Rattle.dc_lower.specs.Placed.{StandAt, HaveNames, IsOutside}
 use Rattle.dc_lower.specs.Printing.{put_code, whole_code, item_code, items_code, printing_code, texts_of_item, texts_of_items, TextsStand, is_outside, gives_item, give_items}
-use Rattle.dc_lower.proofs.Expressions.{both-true, outer_place_of, outer-places, reads-law, append-assoc, append-nil, plus-one, plus-none, behind-two, value-law}
-use Rattle.dc_lower.proofs.Placing.{get-left, get-right, stand-left, stand-right, stepped, length-both}
+use Rattle.dc_lower.proofs.Expressions.{both-true, outer_place_of, outer-places, reads-law, append-assoc, plus-one, plus-none, behind-two, value-law}
+use Rattle.dc_lower.proofs.Placing.{get-left, get-right, stand-left, stand-right, stepped}
 
 -- ---- lines
 
@@ -97,7 +96,7 @@ single-law code scope call line at frame state tree sort names stand so K later 
     value-law code scope call line at frame state tree names (stand-left (value_code scope tree) (put_code sort ∷ []) stand) so
     (λ w. K (piece sort w.0 ∷ [], w.1))
     (λ z. value-put code line (at + length (value_code scope tree)) frame state sort z (stand-right at (value_code scope tree) (put_code sort ∷ []) stand)
-        ∙ ap (λ place. machine code place (put (written sort z) frame) state.turns) (behind-two (value_code scope tree) (put_code sort ∷ []) at) ∙ later (piece sort z ∷ []))
+    ∙ ap (λ place. machine code place (put (written sort z) frame) state.turns) (behind-two (value_code scope tree) (put_code sort ∷ []) at) ∙ later (piece sort z ∷ []))
     ∙ sym (sequence-then (value scope call line tree state) (λ w. give (piece sort w.0 ∷ [], w.1)) K)
 
 texts-of-values : (sort : Sort) (zs : List ℤ) → texts (map (piece sort) zs) ≡ map (written sort) zs
@@ -114,7 +113,7 @@ array-law code line at frame state variable sort bounds is stand K later =
     ∙ ap (λ n. sequence (sequence (all_read code line (map (element variable) (range_with_len 0 n))) putting) (λ left. machine code (suc at) left state.turns)) is.elements
     ∙ sequence-then (all_read code line (map (element variable) (range_with_len 0 (elements_in bounds)))) putting (λ left. machine code (suc at) left state.turns)
     ∙ reads-law code line variable sort bounds state is 0 (elements_in bounds) (omega arith)
-        (λ zs. machine code (suc at) (put_each (map (written (sort_of_shape is.shape)) zs) frame) state.turns) (λ w. K (map (piece sort) w.0, w.1)) settled
+    (λ zs. machine code (suc at) (put_each (map (written (sort_of_shape is.shape)) zs) frame) state.turns) (λ w. K (map (piece sort) w.0, w.1)) settled
     ∙ sym (sequence-then (acts.for_each (acts.refer_to line) (map (outer_place_of variable) (range_with_len 0 (elements_in bounds))) state) (λ w. give (map (piece sort) w.0, w.1)) K)
     ∙ ap (λ c. sequence (sequence (sequence c (λ w. acts.for_each (acts.refer_to line) w.0 w.1)) (λ w. give (map (piece sort) w.0, w.1))) K) (sym (outer-places line variable sort bounds 0 (elements_in bounds) state))
   where
@@ -145,8 +144,8 @@ named-law : (code : CodeLists) (scope : Scope) (call : Callee) (line at : ℕ) (
     → StandAt code line at (cond array (whole_code (entity scope text)) (value_code scope (name text) ++ put_code (sort_of_entity (entity scope text)) ∷ []))
     → cond array (is_outside (entity scope text)) (is_usable scope (name text)) ≡ true
     → ItemLaw code at (cond array (whole_code (entity scope text)) (value_code scope (name text) ++ put_code (sort_of_entity (entity scope text)) ∷ [])) frame state
-        (cond array (sequence (whole_values line (entity scope text) state) (λ w. give (map (piece (sort_of_entity (entity scope text))) w.0, w.1)))
-        (sequence (value scope call line (name text) state) (λ w. give (piece (sort_of_entity (entity scope text)) w.0 ∷ [], w.1))))
+    (cond array (sequence (whole_values line (entity scope text) state) (λ w. give (map (piece (sort_of_entity (entity scope text))) w.0, w.1)))
+    (sequence (value scope call line (name text) state) (λ w. give (piece (sort_of_entity (entity scope text)) w.0 ∷ [], w.1))))
 named-law code scope call line at frame state text true names stand so K later = whole-item-law code scope call line at frame state text (entity scope text) refl names stand so K later
 named-law code scope call line at frame state text false names stand so K later = single-law code scope call line at frame state (name text) (sort_of_entity (entity scope text)) names stand so K later
 
@@ -166,9 +165,9 @@ item-law code scope call line at next frame state (name text) names there stand 
   where
     chosen : (array : Bool)
         → cond array (sequence (whole_values line (entity scope text) state) (λ w. give (map (piece (sort_of_entity (entity scope text))) w.0, w.1)))
-            (sequence (value scope call line (name text) state) (λ w. give (piece (sort_of_entity (entity scope text)) w.0 ∷ [], w.1)))
+        (sequence (value scope call line (name text) state) (λ w. give (piece (sort_of_entity (entity scope text)) w.0 ∷ [], w.1)))
         ≡ cond {A = State → Computing (List Piece × State)} array (λ state. sequence (whole_values line (entity scope text) state) (λ w. give (map (piece (sort_of_entity (entity scope text))) w.0, w.1)))
-            (λ state. sequence (value scope call line (name text) state) (λ w. give (piece (sort_of_entity (entity scope text)) w.0 ∷ [], w.1))) state
+        (λ state. sequence (value scope call line (name text) state) (λ w. give (piece (sort_of_entity (entity scope text)) w.0 ∷ [], w.1))) state
     chosen true = refl
     chosen false = refl
 item-law code scope call line at next frame state (number digits suffix) names there stand so K later = single-law code scope call line at frame state (number digits suffix) _ names stand so K later
@@ -211,13 +210,13 @@ items-law code scope call line at next frame state (tree ∷ trees) names there 
     item-law code scope call line at next frame state tree names (texts-left (texts_of_item tree) (texts_of_items trees) there) (stand-left first second stand) (both-true so).0
     (λ w. sequence (sequence (acts.for_each (pieces scope call line) trees w.1) (λ v. give (w.0 ∷ v.0, v.1))) K)
     (λ given. items-law code scope call line (at + length first) (next + length (texts_of_item tree)) (put_each (texts given) frame) state trees (same-names (texts given) names)
-        (texts-right next (texts_of_item tree) (texts_of_items trees) there) (stand-right at first second stand) (both-true so).1
-        (λ v. K (given ∷ v.0, v.1))
-        (λ others. ap (λ (f : Frame). machine code (at + length first + length second) f state.turns)
-            (sym (put-both (texts given) (texts (all_pieces others)) frame) ∙ ap (λ (ts : List (List ℕ)). put_each ts frame) (sym (map-both piece_text given (all_pieces others))))
-            ∙ ap (λ place. machine code place (put_each (texts (all_pieces (given ∷ others))) frame) state.turns) (behind-two first second at)
-            ∙ later (given ∷ others))
-        ∙ sym (sequence-then (acts.for_each (pieces scope call line) trees state) (λ v. give (given ∷ v.0, v.1)) K))
+    (texts-right next (texts_of_item tree) (texts_of_items trees) there) (stand-right at first second stand) (both-true so).1
+    (λ v. K (given ∷ v.0, v.1))
+    (λ others. ap (λ (f : Frame). machine code (at + length first + length second) f state.turns)
+    (sym (put-both (texts given) (texts (all_pieces others)) frame) ∙ ap (λ (ts : List (List ℕ)). put_each ts frame) (sym (map-both piece_text given (all_pieces others))))
+    ∙ ap (λ place. machine code place (put_each (texts (all_pieces (given ∷ others))) frame) state.turns) (behind-two first second at)
+    ∙ later (given ∷ others))
+    ∙ sym (sequence-then (acts.for_each (pieces scope call line) trees state) (λ v. give (given ∷ v.0, v.1)) K))
     ∙ sym (sequence-then (pieces scope call line tree state) (λ w. sequence (acts.for_each (pieces scope call line) trees w.1) (λ v. give (w.0 ∷ v.0, v.1))) K)
 
 pub printing-law : (code : CodeLists) (scope : Scope) (call : Callee) (line at next : ℕ) (frame : Frame) (state : State) (trees : List Tree) → HaveNames code scope frame state
@@ -229,12 +228,12 @@ printing-law code scope call line at next frame state trees names start there st
     items-law code scope call line at next frame state trees names there (stand-left items (What.PutEnd ∷ []) stand) so
     (λ w. sequence (ending w) K)
     (λ given. stepped (at + length items) What.PutEnd [] (put_each (texts (all_pieces given)) frame) state.turns (stand-right at items (What.PutEnd ∷ []) stand)
-        ∙ ap (λ bytes. pause (write_line line bytes) (λ told. machine code (suc (at + length items)) (with_line [] false (put_each (texts (all_pieces given)) frame)) state.turns))
-            (put-line (texts (all_pieces given)) frame start)
-        ∙ ap (λ (f : Frame). pause (write_line line (line_of (texts (all_pieces given)))) (λ told. machine code (suc (at + length items)) f state.turns))
-            (cleared (texts (all_pieces given)) frame ∙ lineless frame start)
-        ∙ ap (λ c. pause (write_line line (line_of (texts (all_pieces given)))) (λ told. c))
-            (ap (λ place. machine code place frame state.turns) (plus-one (at + length items) ∙ behind-two items (What.PutEnd ∷ []) at) ∙ later))
+    ∙ ap (λ bytes. pause (write_line line bytes) (λ told. machine code (suc (at + length items)) (with_line [] false (put_each (texts (all_pieces given)) frame)) state.turns))
+    (put-line (texts (all_pieces given)) frame start)
+    ∙ ap (λ (f : Frame). pause (write_line line (line_of (texts (all_pieces given)))) (λ told. machine code (suc (at + length items)) f state.turns))
+    (cleared (texts (all_pieces given)) frame ∙ lineless frame start)
+    ∙ ap (λ c. pause (write_line line (line_of (texts (all_pieces given)))) (λ told. c))
+    (ap (λ place. machine code place frame state.turns) (plus-one (at + length items) ∙ behind-two items (What.PutEnd ∷ []) at) ∙ later))
     ∙ sym (sequence-then (acts.for_each (pieces scope call line) trees state) ending K)
   where
     items : List What

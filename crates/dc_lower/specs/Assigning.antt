@@ -1,6 +1,5 @@
 -- The instructions for assignments to outside variables. This project's own.
-use Rattle.std.specs.Prelude.{Bool, true, false, ◌&&◌, nat_eq, List, [], ◌∷◌, ◌++◌, length, flat_map, Option, Some, None}
-use Rattle.std.specs.List.{list_all}
+use Rattle.std.specs.Prelude.{Bool, true, false, ◌&&◌, List, [], ◌∷◌, ◌++◌, length, Option, Some, None}
 use Rattle.dc_code.specs.declared.instr.What.{What}
 use Rattle.dc_tree.specs.Entities.{Entity, outside, Scope, entity}
 use Rattle.dc_tree.specs.Statements.{Target}

@@ -10,8 +10,8 @@ use Rattle.dc_code.specs.declared.instr.Relation.{Relation}
 use Rattle.dc_code.specs.declared.instr.What.{What}
 use Rattle.dc_code.specs.Instructions.{takes_one}
 use Rattle.dc_tree.specs.declared.token.Mark.{Mark}
-use Rattle.dc_tree.specs.Entities.{Entity, outside, slots, dummy, constant, nothing, Scope, entity}
-use Rattle.dc_tree.specs.Intrinsics.{Intrinsic, operation, chosen, merge, converted, huge, bit_size, kind, size, lower_bound, upper_bound, total, count, any, all, intrinsic}
+use Rattle.dc_tree.specs.Entities.{Entity, outside, slots, constant, nothing, Scope, entity}
+use Rattle.dc_tree.specs.Intrinsics.{Intrinsic, operation, chosen, merge, converted, huge, bit_size, kind, total, count, any, all, intrinsic}
 use Rattle.dc_tree.specs.Literals.{number_of}
 use Rattle.dc_tree.specs.Operating.{about_kind}
 use Rattle.dc_tree.specs.Syntax as syntax

@@ -1,11 +1,10 @@
 -- Where instructions stand in a code, and what a frame has of the names of a scope. This project's own.
-use Rattle.std.specs.Prelude.{◌≡◌, ◌<◌, ℕ, ◌+◌, ◌-◌, List, map, length, slice_get, Option, Some, ℤ}
+use Rattle.std.specs.Prelude.{◌≡◌, ℕ, ◌+◌, ◌-◌, List, map, length, slice_get, Some, ℤ}
 use Rattle.std.specs.List.{range_with_len}
 use Rattle.dc_int.specs.declared.variable.Shape.{Shape}
 use Rattle.dc_int.specs.Reductions.{truth, number_of_truth}
 use Rattle.dc_int.specs.Sorts.{Sort, logical, sort_with}
 use Rattle.dc_int.specs.Store.{Bounds, elements_in}
-use Rattle.dc_code.specs.declared.instr.Instr.{Instr}
 use Rattle.dc_code.specs.declared.instr.What.{What}
 use Rattle.dc_code.specs.declared.plan.Group.{Group}
 use Rattle.dc_code.specs.Codes.{CodeLists}
