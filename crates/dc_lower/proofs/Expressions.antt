@@ -219,6 +219,9 @@ slots-law code call line at frame state group sort bounds zs stand is ranked K l
 
 -- ---- names
 
+pub both-hold : {a b : Bool} → a ≡ true → b ≡ true → (a && b) ≡ true
+both-hold {b = b} first second = ap (λ c. c && b) first ∙ second
+
 pub both-true : {a b : Bool} → (a && b) ≡ true → (a ≡ true) × (b ≡ true)
 both-true {a = true} {b = b} e = (refl, e)
 both-true {a = false} {b = b} e = absurd (false≢true e)

@@ -29,7 +29,7 @@ use Rattle.dc_meaning.specs.OutputPieces.{Piece, piece_text}
 use Rattle.dc_meaning.specs.Places.{whole_values}
 use Rattle.dc_meaning.specs.Values.{Callee, value}
 use Rattle.dc_lower.specs.Expressions.{value_code, is_usable}
-use Rattle.dc_lower.specs.Placed.{StandAt, HaveNames, IsOutside}
+use Rattle.dc_lower.specs.Placed.{StandAt, HaveNames, IsOutside, IsLineless}
 use Rattle.dc_lower.specs.Printing.{put_code, whole_code, item_code, items_code, printing_code, texts_of_item, texts_of_items, TextsStand, is_outside, gives_item, give_items}
 use Rattle.dc_lower.proofs.Expressions.{both-true, outer_place_of, outer-places, reads-law, append-assoc, plus-one, plus-none, behind-two, value-law}
 use Rattle.dc_lower.proofs.Placing.{get-left, get-right, stand-left, stand-right, stepped}
@@ -53,11 +53,6 @@ put-rest (text ∷ given) frame begun =
     put-rest given (put text frame) refl
     ∙ ap (λ b. (frame.line ++ cond (not b) text (32 ∷ text)) ++ rest_of_line given) begun
     ∙ append-assoc frame.line (32 ∷ text) (rest_of_line given)
-
--- A frame between two output statements.
-pub record IsLineless (frame : Frame) : Type 0 where
-  pub empty : frame.line ≡ []
-  pub begun : frame.begun ≡ false
 
 put-line : (given : List (List ℕ)) (frame : Frame) → IsLineless frame → (put_each given frame).line ++ 10 ∷ [] ≡ line_of given
 put-line [] frame start = ap (λ (line : List ℕ). line ++ 10 ∷ []) start.empty

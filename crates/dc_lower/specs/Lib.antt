@@ -1,4 +1,5 @@
 pub mod Assigning
+pub mod Carrying
 pub mod Expressions
 pub mod Placed
 pub mod Printing

@@ -1,26 +1,39 @@
 //! What the instructions of trees do.
 
-ghost use Rattle.std.specs.Prelude.{◌≡◌, ◌+◌, ℕ, ℤ, length, true};
+ghost use Rattle.std.specs.Prelude.{◌≡◌, ◌&&◌, ℕ, List, true};
 ghost use Rattle.dc_code.specs.Codes.{CodeLists};
-ghost use Rattle.dc_code.specs.Computation.{sequence};
-ghost use Rattle.dc_code.specs.Frames.{Frame, pushed};
-ghost use Rattle.dc_code.specs.Machine.{machine};
-ghost use Rattle.dc_code.specs.Troubles.{Computing};
-ghost use Rattle.dc_code.specs.declared.frame.Item.{Item};
-ghost use Rattle.dc_tree.specs.Entities.{Scope};
+ghost use Rattle.dc_tree.specs.Entities.{Scope, entity};
+ghost use Rattle.dc_tree.specs.Statements.{Target};
 ghost use Rattle.dc_tree.specs.Syntax.{Tree};
-ghost use Rattle.dc_meaning.specs.Acts.{State};
+ghost use Rattle.dc_meaning.specs.Actions.{assignment, printing};
 ghost use Rattle.dc_meaning.specs.Values.{Callee, value};
+ghost use Rattle.dc_lower.specs.Assigning.{assignment_code, takes_values};
+ghost use Rattle.dc_lower.specs.Carrying.{LeaveValue, CarryOut};
 ghost use Rattle.dc_lower.specs.Expressions.{value_code, is_usable};
-ghost use Rattle.dc_lower.specs.Placed.{StandAt, HaveNames};
+ghost use Rattle.dc_lower.specs.Printing.{printing_code, texts_of_items, TextsStand, give_items};
 
-/// Where the instructions of an expression stand, the machine does what the expression means, and then goes
-/// on behind them with its value on top of the stack: the same accesses in the same order, and the same
-/// faults. The names are used as the rules of names and types leave them.
+/// The instructions of an expression leave its value. Its names and functions are used as the rules of names
+/// and types leave them.
 pub fn instructions_of_an_expression_leave_its_value()
-    ensures { (code : CodeLists) (scope : Scope) (call : Callee) (line at : ℕ) (frame : Frame) (state : State) (tree : Tree)
-        → HaveNames code scope frame state → StandAt code line at (value_code scope tree) → is_usable scope tree ≡ true
-        → (rest : ℤ × State → Computing (Frame × ℕ))
-        → ((z : ℤ) → machine code (at + length (value_code scope tree)) (pushed (Item.Value z) frame) state.turns ≡ rest (z, state))
-        → machine code at frame state.turns ≡ sequence (value scope call line tree state) rest }
+    ensures { (code : CodeLists) (scope : Scope) (call : Callee) (line : ℕ) (tree : Tree)
+        → is_usable scope tree ≡ true
+        → LeaveValue code scope line (value_code scope tree) (value scope call line tree) }
+{}
+
+/// The instructions of an assignment to a variable of the main program carry it out: the value, then the
+/// subscripts, and then each element is defined.
+pub fn instructions_of_an_assignment_carry_it_out()
+    ensures { (code : CodeLists) (scope : Scope) (call : Callee) (line : ℕ) (target : Target) (tree : Tree)
+        → is_usable scope tree ≡ true
+        → takes_values scope (entity scope target.name) target.subscripts ≡ true
+        → CarryOut code scope line (assignment_code scope target tree)
+        (assignment scope call line target tree (entity scope target.name)) }
+{}
+
+/// The instructions of PRINT and WRITE carry it out: all items are evaluated, and then the line is written.
+/// The literals stand among the texts of the code from a number on.
+pub fn instructions_of_output_carry_it_out()
+    ensures { (code : CodeLists) (scope : Scope) (call : Callee) (line next : ℕ) (items : List Tree)
+        → give_items scope items ≡ true → TextsStand code next (texts_of_items items)
+        → CarryOut code scope line (printing_code scope next items) (printing scope call line items) }
 {}
