@@ -1,5 +1,5 @@
 -- Subscripts that are taken off one after another, the last first.
-use Rattle.std.proofs.Common.{◌≡◌, ℕ, zero, suc, ◌+◌, ◌-◌, ◌*◌, ◌≤◌, ◌<◌, List, [], ◌∷◌, ◌++◌, length, drop, get_or, append_assoc, append-nil, add-one, Option, Some, None, refl, sym, ap, ◌∙◌, subst, arith}
+use Rattle.std.proofs.Common.{◌≡◌, ℕ, zero, suc, ◌+◌, ◌*◌, ◌≤◌, List, [], ◌∷◌, ◌++◌, length, drop, get_or, append_assoc, append-nil, add-one, Option, Some, None, refl, sym, ap, ◌∙◌, arith}
 use Rattle.std.specs.Prelude.{ℤ}
 use Rattle.std.proofs.lemmas.List.{drop_more, drop_all}
 use Rattle.std.proofs.lemmas.Option.{none-some}
@@ -13,8 +13,7 @@ use Rattle.dc_code.specs.Operands.{faulty, stuck, value_off, values_off}
 use Rattle.dc_code.specs.Reaching.{positioned, within_bounds}
 use Rattle.dc_code.specs.Troubles.{Computing}
 use Rattle.dc_code.proofs.Sequences.{sequence-then}
-use Rattle.dc_frame.specs.declared.subscripts.Subscripted.{Subscripted}
-use Rattle.dc_frame.specs.Taking.{taken, subscripts_off, subscripted}
+use Rattle.dc_frame.specs.Taking.{taken, subscripts_off}
 use Rattle.dc_frame.proofs.Positions.{elements-later, position-less, no-position, joined-none}
 
 -- the position by all subscripts

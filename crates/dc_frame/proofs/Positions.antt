@@ -1,5 +1,5 @@
 -- How many elements there are within bounds, and the position of one of them.
-use Rattle.std.proofs.Common.{◌≡◌, ℕ, zero, suc, ◌+◌, ◌*◌, ◌≤◌, ◌<◌, true, ◌&&◌, List, [], ◌∷◌, length, drop, get_or, Option, Some, None, refl, sym, ap, ◌∙◌, subst, arith}
+use Rattle.std.proofs.Common.{◌≡◌, ℕ, zero, suc, ◌+◌, ◌*◌, ◌≤◌, ◌<◌, true, ◌&&◌, List, [], ◌∷◌, length, drop, get_or, Option, Some, None, refl, sym, arith}
 use Rattle.std.specs.Prelude.{ℤ, pos, ◌+ℤ◌, int_le}
 use Rattle.std.specs.Int.{int_gap}
 use Rattle.std.proofs.lemmas.Bool.{and_parts}

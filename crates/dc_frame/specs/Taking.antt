@@ -1,5 +1,5 @@
 -- What is taken off the stack of a frame, as the code answers it. This project's own.
-use Rattle.std.specs.Prelude.{ℕ, Bool, true, false, List, [], ◌∷◌, length, Option, Some, None, ℤ}
+use Rattle.std.specs.Prelude.{ℕ, Bool, true, false, List, ◌∷◌, length, Option, Some, None}
 use Rattle.dc_int.specs.declared.fault.FaultKind.{FaultKind}
 use Rattle.dc_int.specs.Store.{Bounds, position_in}
 use Rattle.dc_code.specs.declared.frame.Item.{Item}

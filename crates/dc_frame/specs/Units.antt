@@ -1,7 +1,9 @@
 -- What is done to a unit that is being executed. This project's own.
-use Rattle.std.specs.Prelude.{ℕ, ◌+◌, ◌-◌, Bool, List, [], ◌∷◌, map, take, length, nat_lt, slice_get, slice_set, Option, Some, None, option_and_then, false, if◌then◌else◌, ℤ}
-use Rattle.dc_int.specs.Store.{changed_at, number_in}
+use Rattle.std.specs.Prelude.{◌≡◌, ℕ, ◌-◌, List, [], ◌∷◌, map, take, length, nat_lt, slice_get, slice_set, Option, Some, None, option_and_then, false, if◌then◌else◌, ℤ}
+use Rattle.dc_int.specs.Store.{changed_at, elements_in, number_in}
 use Rattle.dc_code.specs.declared.frame.Passed.{Passed}
+use Rattle.dc_code.specs.declared.plan.Group.{Group}
+use Rattle.dc_code.specs.Codes.{CodeLists, plan_at, plan_numbered}
 use Rattle.dc_code.specs.Frames.{UnitFrame, Frame, with_slots, with_dummies}
 use Rattle.dc_code.specs.Troubles.{Slots}
 
@@ -40,6 +42,9 @@ dummy_set number z unit = with_dummies (slice_set unit.dummies number (Passed.By
 
 -- ---- beginning anew
 
+abbrev pub size_of_group : Group → ℕ
+size_of_group group = elements_in group.bounds
+
 -- All slots become undefined, and what was returned is forgotten.
 abbrev pub restarted_unit : UnitFrame → UnitFrame
 restarted_unit unit =
@@ -48,3 +53,14 @@ restarted_unit unit =
 -- The outermost unit alone is left, at its start, with nothing on the stack and nothing on the line.
 abbrev pub restarted : Frame → Frame
 restarted frame = record { stack = []; units = map restarted_unit (take 1 frame.units); line = []; begun = false }
+
+-- The outermost unit is one of the part that begins at a place: it has that plan, with as many slots in each group, no
+-- dummies, and nothing to return to.
+pub record BeganAt (code : CodeLists) (entry : ℕ) (frame : Frame) : Type 0 where
+  pub outermost : UnitFrame
+  pub others : List UnitFrame
+  pub units : frame.units ≡ outermost ∷ others
+  pub plan : outermost.plan ≡ plan_at code entry
+  pub slots : map length outermost.slots ≡ map size_of_group (plan_numbered code (plan_at code entry)).groups
+  pub dummies : outermost.dummies ≡ []
+  pub back : outermost.back ≡ 0

@@ -328,7 +328,6 @@ impl Frame {
         self.stack.clear();
         self.units.truncate(1);
         self.units[0].reset();
-        self.line.clear();
-        self.begun = false;
+        self.clear_line();
     }
 }

@@ -1,7 +1,7 @@
-use Rattle.std.proofs.Common.{◌≡◌, ◌+◌, ◌<◌, ◌≤◌, ℕ, false, length, flat_map, ap, ◌∙◌, subst, IfOk, arith}
+use Rattle.std.proofs.Common.{◌≡◌, ◌<◌, ◌≤◌, ℕ, false, length, ◌∙◌, subst, IfOk, arith}
 use Rattle.std.proofs.lemmas.Bool.Decides.{nat_tests}
 use Rattle.std.specs.Prelude.{nat_eq}
-use Rattle.dc_code.specs.Codes.{place_among, starts_of_loop}
+use Rattle.dc_code.specs.Codes.{place_among}
 use Rattle.dc_frame.proofs.Placed.{plan-procedure, plan-loop}
 use Rattle.dc_frame.proofs.starts.plan_at.Goals as goal
 
