@@ -172,10 +172,10 @@ item-law code scope call line at next frame state (paren inside) names there sta
 item-law code scope call line at next frame state (unary mark right) names there stand so K later = single-law code scope call line at frame state (unary mark right) _ names stand so K later
 item-law code scope call line at next frame state (binary mark left right) names there stand so K later = single-law code scope call line at frame state (binary mark left right) _ names stand so K later
 
-texts-left : {code : CodeLists} {next : ℕ} (first second : List (List ℕ)) → TextsStand code next (first ++ second) → TextsStand code next first
+pub texts-left : {code : CodeLists} {next : ℕ} (first second : List (List ℕ)) → TextsStand code next (first ++ second) → TextsStand code next first
 texts-left first second there = record { each = λ i text e. there.each i text (get-left first second i text e) }
 
-texts-right : {code : CodeLists} (next : ℕ) (first second : List (List ℕ)) → TextsStand code next (first ++ second) → TextsStand code (next + length first) second
+pub texts-right : {code : CodeLists} (next : ℕ) (first second : List (List ℕ)) → TextsStand code next (first ++ second) → TextsStand code (next + length first) second
 texts-right {code} next first second there =
     record { each = λ i text e. subst (λ n. slice_get code.texts n ≡ Some text) (behind i) (there.each (length first + i) text (get-right first second i ∙ e)) }
   where

@@ -1,4 +1,5 @@
 pub mod Assigning
+pub mod Blocks
 pub mod Carrying
 pub mod Expressions
 pub mod Placed
