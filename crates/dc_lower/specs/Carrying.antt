@@ -1,15 +1,17 @@
 -- That instructions do what a part of a tree means, wherever they stand. This project's own.
-use Rattle.std.specs.Prelude.{◌≡◌, ℕ, ◌+◌, List, length, ℤ}
+use Rattle.std.specs.Prelude.{◌≡◌, ℕ, ◌+◌, Bool, true, List, [], ◌∷◌, length, ℤ}
+use Rattle.dc_code.specs.declared.instr.Instr.{Instr}
 use Rattle.dc_code.specs.declared.frame.Item.{Item}
 use Rattle.dc_code.specs.declared.instr.What.{What}
 use Rattle.dc_code.specs.Codes.{CodeLists}
-use Rattle.dc_code.specs.Computation.{sequence}
+use Rattle.dc_code.specs.Computation.{give, sequence}
 use Rattle.dc_code.specs.Frames.{Frame, pushed}
 use Rattle.dc_code.specs.Machine.{machine}
-use Rattle.dc_code.specs.Troubles.{Computing}
+use Rattle.dc_code.specs.Troubles.{Computing, Slots}
 use Rattle.dc_tree.specs.Entities.{Scope}
 use Rattle.dc_meaning.specs.Actions.{Flow, on}
 use Rattle.dc_meaning.specs.Acts.{State, Act}
+use Rattle.dc_lower.specs.Blocks.{InstrsStand}
 use Rattle.dc_lower.specs.Placed.{StandAt, HaveNames, IsLineless}
 
 -- A run of the machine from a place is what is meant, and then what goes on behind the instructions, where the value
@@ -28,3 +30,14 @@ CarryOut code scope line whats meant =
     → (rest : Flow × State → Computing (Frame × ℕ))
     → machine code (at + length whats) frame state.turns ≡ rest (on, state)
     → machine code at frame state.turns ≡ sequence (meant state) rest
+
+-- The state of a block inside these entities, with so many turns left.
+abbrev pub inside : Slots → ℕ → State
+inside own turns = record { frames = record { slots = own; dummies = [] } ∷ []; turns = turns }
+
+-- The same of a whole part, which leaves its frame and the turns. Where loops stand in it nothing is around them.
+abbrev pub RunPart : CodeLists → Scope → (loops : Bool) → List Instr → Act Flow → Type 0
+RunPart code scope loops instrs meant =
+    (at : ℕ) (frame : Frame) (own : Slots) (turns : ℕ) → ((left : ℕ) → HaveNames code scope frame (inside own left)) → IsLineless frame → InstrsStand code at instrs
+    → (loops ≡ true → own ≡ [])
+    → machine code at frame turns ≡ sequence (meant (inside own turns)) (λ w. give (frame, (w.1).turns))

@@ -1,14 +1,17 @@
 //! What the instructions of trees do.
 
-ghost use Rattle.std.specs.Prelude.{◌≡◌, ◌&&◌, ℕ, List, true};
+ghost use Rattle.std.specs.Prelude.{◌≡◌, ℕ, Bool, List, true};
 ghost use Rattle.dc_code.specs.Codes.{CodeLists};
+ghost use Rattle.dc_tree.specs.Blocks.{Items};
 ghost use Rattle.dc_tree.specs.Entities.{Scope, entity};
 ghost use Rattle.dc_tree.specs.Statements.{Target};
 ghost use Rattle.dc_tree.specs.Syntax.{Tree};
 ghost use Rattle.dc_meaning.specs.Actions.{assignment, printing};
+ghost use Rattle.dc_meaning.specs.Execution.{exec_all};
 ghost use Rattle.dc_meaning.specs.Values.{Callee, value};
 ghost use Rattle.dc_lower.specs.Assigning.{assignment_code, takes_values};
-ghost use Rattle.dc_lower.specs.Carrying.{LeaveValue, CarryOut};
+ghost use Rattle.dc_lower.specs.Blocks.{part_code, block_is_lowered, texts_of_block};
+ghost use Rattle.dc_lower.specs.Carrying.{LeaveValue, CarryOut, RunPart};
 ghost use Rattle.dc_lower.specs.Expressions.{value_code, is_usable};
 ghost use Rattle.dc_lower.specs.Printing.{printing_code, texts_of_items, TextsStand, give_items};
 
@@ -36,4 +39,12 @@ pub fn instructions_of_output_carry_it_out()
     ensures { (code : CodeLists) (scope : Scope) (call : Callee) (line next : ℕ) (items : List Tree)
         → give_items scope items ≡ true → TextsStand code next (texts_of_items items)
         → CarryOut code scope line (printing_code scope next items) (printing scope call line items) }
+{}
+
+/// The instructions of a part that is a block carry it out, and End leaves the turns: of assignments and
+/// output, and of the loops of a main program, which are entered by their numbers from one on.
+pub fn instructions_of_a_block_carry_it_out()
+    ensures { (code : CodeLists) (scope : Scope) (call : Callee) (next number line : ℕ) (loops : Bool) (block : Items)
+        → block_is_lowered scope loops block ≡ true → TextsStand code next (texts_of_block block)
+        → RunPart code scope loops (part_code scope next number block line) (exec_all scope call number block) }
 {}
