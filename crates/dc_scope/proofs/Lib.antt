@@ -1,3 +1,5 @@
+pub mod Covering
 pub mod Elements
 pub mod Examples
 pub mod Lists
+pub mod Ranges

@@ -1,8 +1,10 @@
 //! The rules on names that statements break.
 #![tactic(auto)]
 
+mod case_values;
 mod casing;
 mod checking;
+mod covered;
 mod deed;
 mod header;
 mod holding;
