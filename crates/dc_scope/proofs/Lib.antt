@@ -3,3 +3,4 @@ pub mod Elements
 pub mod Examples
 pub mod Lists
 pub mod Ranges
+pub mod Repeats

@@ -11,6 +11,7 @@ mod holding;
 mod index;
 mod interval;
 mod program;
+mod twice;
 mod walk;
 
 pub use checking::check_scope;
