@@ -13,7 +13,6 @@ use Rattle.dc_uses.specs.declared.constant.Constant.{Constant}
 use Rattle.dc_uses.specs.Constants.{constant_of}
 use Rattle.dc_uses.specs.Uses.{use_findings}
 use Rattle.dc_scope.specs.declared.interval.Interval.{Interval}
-use Rattle.dc_scope.specs.declared.interval.Cases.{Cases}
 
 -- ---- values
 
@@ -101,6 +100,11 @@ ranges_in standing line before (first ∷ rest) =
 abbrev pub intervals_behind : Standing → List Interval → List CaseRange → List Interval
 intervals_behind standing before [] = before
 intervals_behind standing before (first ∷ rest) = intervals_behind standing (with_interval before (interval_of standing first)) rest
+
+-- What the CASE statements of a construct name so far.
+pub record Cases : Type 0 where
+  pub intervals : List Interval
+  pub has_default : Bool
 
 abbrev pub no_cases : Cases
 no_cases = record { intervals = []; has_default = false }

@@ -6,8 +6,7 @@ use Rattle.dc_tree.specs.Blocks.{Item, Items, Arms, Line, Source, Subprogram, pl
 use Rattle.dc_tree.specs.Statements.{Statement, if_then, else_if, if_action, select_case, do_line, do_while, concurrent, act}
 use Rattle.dc_sorts.specs.Standing.{Standing}
 use Rattle.dc_uses.specs.Uses.{use_findings}
-use Rattle.dc_scope.specs.declared.interval.Cases.{Cases}
-use Rattle.dc_scope.specs.Cases.{no_cases, case_findings, cases_behind}
+use Rattle.dc_scope.specs.Cases.{Cases, no_cases, case_findings, cases_behind}
 use Rattle.dc_scope.specs.Deeds.{deed_findings, do_findings}
 use Rattle.dc_scope.specs.Headers.{header_findings, inside}
 

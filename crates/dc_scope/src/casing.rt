@@ -1,18 +1,19 @@
 //! The CASE statements of a construct.
 
-ghost use Rattle.std.specs.Prelude.{◌≡◌, ◌||◌, map, IfOk, OnOk};
+ghost use Rattle.std.specs.Prelude.{◌≡◌, ◌||◌, List, map, IfOk, OnOk};
 ghost use Rattle.dc_tree.specs.Findings.{least_with_all};
 ghost use Rattle.dc_tree.specs.Statements.{case_range, statement};
 ghost use Rattle.dc_tree.specs.Syntax.{tree};
 ghost use Rattle.dc_sorts.specs.Standing.{standing_of};
 ghost use Rattle.dc_uses.specs.Constants as constants;
-ghost use Rattle.dc_scope.specs.Cases.{is_logical_value, no_cases, with_interval, interval_of, intervals_behind, cases_behind, value_findings, ends_findings, range_findings, ranges_in, case_findings};
+ghost use Rattle.dc_scope.specs.declared.interval.Interval.{Interval};
+ghost use Rattle.dc_scope.specs.Covers.{Covers, Keeps};
+ghost use Rattle.dc_scope.specs.Cases.{Cases, is_logical_value, with_interval, interval_of, intervals_behind, cases_behind, value_findings, ends_findings, range_findings, ranges_in, case_findings};
 
-use crate::interval::{
-    Cases, Interval, downward, is_logical_value, meets_any, single, spanned, upward,
-};
+use crate::case_values::{CaseValues, CasesSoFar, add, meets_any};
+use crate::interval::{Interval, downward, is_logical_value, single, spanned, upward};
 use dc_sorts::Standing;
-use dc_text::{DcList, NoMemory};
+use dc_text::NoMemory;
 use dc_tree::{Expr, LeastFinding, Range, Stmt};
 use dc_uses::{Constant, constant_of, note_uses};
 use std::alloc::Global;
@@ -78,15 +79,6 @@ fn note_ends(
     }
 }
 
-fn add(intervals: &mut DcList<Interval>, next: Option<Interval>) -> Result<(), NoMemory>
-    ensures { OnOk result (intervals.new ≡ with_interval intervals.old next) }
-{
-    match next {
-        Some(next) => intervals.push(next),
-        None => Ok(()),
-    }
-}
-
 /// Notes what a range breaks behind others, and adds its values to theirs.
 #[tactic(auto, using(dc_tree::proofs::Findings::notes))]
 fn note_range(
@@ -94,17 +86,19 @@ fn note_range(
     standing: &Standing,
     line: u32,
     range: &Range,
-    intervals: &mut DcList<Interval>,
+    values: &mut CaseValues,
     found: &mut LeastFinding,
 ) -> Result<(), NoMemory>
-    ensures intervals { OnOk result (intervals.new ≡ with_interval intervals.old
-        (interval_of (standing_of standing.now) (case_range range.now))) }
-    ensures findings { OnOk result (found.new ≡ least_with_all found.old
-        (range_findings (standing_of standing.now) line intervals.old (case_range range.now))) }
+    ensures values { OnOk result ((before : List Interval) → Covers values.old before
+        → Covers values.new (with_interval before
+        (interval_of (standing_of standing.now) (case_range range.now)))) }
+    ensures findings { OnOk result ((before : List Interval) → Covers values.old before
+        → found.new ≡ least_with_all found.old
+        (range_findings (standing_of standing.now) line before (case_range range.now))) }
 {
     let next = note_ends(alloc, standing, line, range, found)?;
-    found.note_if(meets_any(intervals.as_slice(), next), 27, line);
-    add(intervals, next)
+    found.note_if(meets_any(values, next), 27, line);
+    add(values, next)
 }
 
 /// Notes what the ranges of a CASE break behind others, and adds their values to theirs.
@@ -114,28 +108,20 @@ fn note_ranges(
     standing: &Standing,
     line: u32,
     ranges: &[Range],
-    intervals: &mut DcList<Interval>,
+    values: &mut CaseValues,
     found: &mut LeastFinding,
 ) -> Result<(), NoMemory>
-    ensures intervals { OnOk result (intervals.new ≡ intervals_behind (standing_of standing.now)
-        intervals.old (map case_range ranges.now)) }
-    ensures findings { OnOk result (found.new ≡ least_with_all found.old
-        (ranges_in (standing_of standing.now) line intervals.old (map case_range ranges.now))) }
+    ensures values { OnOk result ((before : List Interval) → Covers values.old before
+        → Covers values.new (intervals_behind (standing_of standing.now) before
+        (map case_range ranges.now))) }
+    ensures findings { OnOk result ((before : List Interval) → Covers values.old before
+        → found.new ≡ least_with_all found.old
+        (ranges_in (standing_of standing.now) line before (map case_range ranges.now))) }
 {
     for range in ranges {
-        note_range(alloc, standing, line, range, intervals, found)?;
+        note_range(alloc, standing, line, range, values, found)?;
     }
     Ok(())
-}
-
-/// No CASE stands there yet.
-pub(crate) fn no_cases(alloc: Global) -> Cases
-    ensures { result ≡ no_cases }
-{
-    Cases {
-        intervals: DcList::new(alloc),
-        has_default: false,
-    }
 }
 
 /// Notes what a CASE breaks behind others of its construct, and adds it to these.
@@ -144,13 +130,14 @@ pub(crate) fn note_case(
     standing: &Standing,
     line: u32,
     stmt: &Stmt,
-    cases: &mut Cases,
+    so_far: &mut CasesSoFar,
     found: &mut LeastFinding,
 ) -> Result<(), NoMemory>
-    ensures cases { OnOk result (cases.new
-        ≡ cases_behind (standing_of standing.now) cases.old (statement stmt.now)) }
-    ensures findings { OnOk result (found.new ≡ least_with_all found.old
-        (case_findings (standing_of standing.now) line cases.old (statement stmt.now))) }
+    ensures so_far { OnOk result ((cases : Cases) → Keeps so_far.old cases
+        → Keeps so_far.new (cases_behind (standing_of standing.now) cases (statement stmt.now))) }
+    ensures findings { OnOk result ((cases : Cases) → Keeps so_far.old cases
+        → found.new ≡ least_with_all found.old
+        (case_findings (standing_of standing.now) line cases (statement stmt.now))) }
 {
     match stmt {
         Stmt::Case(ranges) => note_ranges(
@@ -158,12 +145,12 @@ pub(crate) fn note_case(
             standing,
             line,
             ranges.as_slice(),
-            &mut cases.intervals,
+            &mut so_far.values,
             found,
         ),
         Stmt::CaseDefault => {
-            found.note_if(cases.has_default, 27, line);
-            cases.has_default = true;
+            found.note_if(so_far.has_default, 27, line);
+            so_far.has_default = true;
             Ok(())
         }
         _ => Ok(()),

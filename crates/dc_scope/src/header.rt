@@ -1,16 +1,16 @@
 //! The headers of DO CONCURRENT.
 
 ghost use Rattle.std.specs.Prelude.{◌≡◌, map, option_map, OnOk};
-ghost use Rattle.std.specs.List.{list_any};
 ghost use Rattle.dc_tree.specs.Findings.{least_with_all};
 ghost use Rattle.dc_tree.specs.Statements.{type_form, index_ranging};
 ghost use Rattle.dc_tree.specs.Syntax.{tree};
 ghost use Rattle.dc_sorts.specs.Standing.{standing_of};
 ghost use Rattle.dc_scope.specs.Headers as headers;
-ghost use Rattle.dc_scope.specs.Headers.{selector_findings, type_findings, index_findings, indexes_in, types_findings, is_named, limit_findings, limits_in, listed_findings, listed_in, local_findings, locality_in, names_findings, inner_findings, outer_findings, header_findings};
+ghost use Rattle.dc_scope.specs.Headers.{selector_findings, type_findings, index_findings, indexes_in, types_findings, limit_findings, limits_in, listed_findings, listed_in, local_findings, locality_in, names_findings, inner_findings, outer_findings, header_findings};
 
 use crate::deed::note_optional;
 use crate::index::indexes_inside;
+use crate::twice::has_twice;
 use dc_sorts::{Form, IndexName, Meaning, Standing};
 use dc_text::{DcList, DcText, NoMemory};
 use dc_tree::{Expr, Index, LeastFinding, Local, TypeSpec};
@@ -102,38 +102,19 @@ fn note_types(
     }
 }
 
-/// Whether an index has this name.
-#[tactic(auto, using(std::proofs::lemmas::List::drop_more))]
-fn is_listed(indexes: &[Index], text: &[u8]) -> bool
-    ensures { result ≡ list_any (is_named text.now) (map index_ranging indexes.now) }
-{
-    for index in indexes {
-        if index.name.as_bytes() == text {
-            return true;
-        }
-    }
-    false
-}
-
-#[tactic(auto, using(std::proofs::lemmas::List::drop_more))]
-fn has_twice(indexes: &[Index]) -> bool
-    ensures { result ≡ headers.has_twice (map index_ranging indexes.now) }
-{
-    for (place, index) in indexes.iter().enumerate() {
-        if is_listed(&indexes[place + 1..], index.name.as_bytes()) {
-            return true;
-        }
-    }
-    false
-}
-
 #[tactic(auto, using(dc_tree::proofs::Findings::notes, crate::proofs::Lists::lengths))]
-fn note_names(line: u32, indexes: &[Index], found: &mut LeastFinding)
-    ensures { found.new ≡ least_with_all found.old
-        (names_findings line (map index_ranging indexes.now)) }
+fn note_names(
+    alloc: Global,
+    line: u32,
+    indexes: &[Index],
+    found: &mut LeastFinding,
+) -> Result<(), NoMemory>
+    ensures { OnOk result (found.new ≡ least_with_all found.old
+        (names_findings line (map index_ranging indexes.now))) }
 {
-    found.note_if(has_twice(indexes), 19, line);
+    found.note_if(has_twice(alloc, indexes)?, 19, line);
     found.note_if(indexes.len() > MOST_INDEXES, 24, line);
+    Ok(())
 }
 
 #[tactic(auto, using(dc_tree::proofs::Findings::notes))]
@@ -228,8 +209,7 @@ fn note_outer(
         (option_map type_form spec.now) (map index_ranging indexes.now))) }
 {
     note_types(alloc, standing, line, spec, indexes, found)?;
-    note_names(line, indexes, found);
-    Ok(())
+    note_names(alloc, line, indexes, found)
 }
 
 /// Notes what stands in the scope of the indexes.

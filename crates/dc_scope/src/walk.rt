@@ -8,7 +8,8 @@ ghost use Rattle.dc_sorts.specs.Standing.{standing_of};
 ghost use Rattle.dc_scope.specs.Cases as case_specs;
 ghost use Rattle.dc_scope.specs.Scope.{findings_at, line_findings, within, one_findings, block_findings, arms_findings, select_findings};
 
-use crate::casing::{no_cases, note_case};
+use crate::case_values::no_cases;
+use crate::casing::note_case;
 use crate::deed::{note_deed, note_do};
 use crate::header::{note_header, with_indexes};
 use crate::index::indexes_inside;
@@ -173,14 +174,14 @@ fn note_select(
         (select_findings (standing_of standing.now) case_specs.no_cases
         (arms_from (map part_items arms.now)))) }
 {
-    let mut cases = no_cases(alloc);
+    let mut so_far = no_cases(alloc);
     for arm in arms.as_slice() {
         note_case(
             alloc,
             standing,
             arm.head.line,
             &arm.head.stmt,
-            &mut cases,
+            &mut so_far,
             found,
         )?;
         note_nodes(alloc, standing, &arm.body.nodes, found)?;

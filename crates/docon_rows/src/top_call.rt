@@ -120,9 +120,10 @@ fn free_form(rt: HostRuntime) -> Result<(), Fail> {
     Ok(())
 }
 
+/// An expression is at most 256 deep.
 #[test]
 fn operands(rt: HostRuntime) -> Result<(), Fail> {
-    for (count, status) in [(100, 0), (101, 1)] {
+    for (count, status) in [(256, 0), (257, 1)] {
         let mut value = String::from_str(rt.alloc(), "i")?;
         for _ in 1..count {
             value.push_str("+i")?;
@@ -130,7 +131,7 @@ fn operands(rt: HostRuntime) -> Result<(), Fail> {
         let source = form(rt.alloc(), "2", value.as_str())?;
         let answer = call(rt.alloc(), source.as_bytes(), &["run", "s.f90"], &WELL)?;
         let out = if status == 0 {
-            b"100 200\n".as_slice()
+            b"256 512\n".as_slice()
         } else {
             b"".as_slice()
         };

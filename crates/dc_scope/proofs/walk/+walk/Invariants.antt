@@ -2,7 +2,8 @@ use Rattle.std.proofs.Common.{◌≡◌, drop, map}
 use Rattle.dc_tree.specs.Blocks.{item, items_from, arms_from, part_items}
 use Rattle.dc_tree.specs.Findings.{least_with_all}
 use Rattle.dc_sorts.specs.Standing.{standing_of}
-use Rattle.dc_scope.specs.Cases.{no_cases}
+use Rattle.dc_scope.specs.Cases.{Cases, no_cases}
+use Rattle.dc_scope.specs.Covers.{Keeps}
 use Rattle.dc_scope.specs.Scope.{block_findings, arms_findings, select_findings}
 use Rattle.dc_scope.proofs.walk.+walk.Given as goal
 
@@ -18,5 +19,6 @@ invariant-note_arms-loop-arm l =
 
 abbrev pub invariant-note_select-loop-arm : goal.invariant-note_select-loop-arm
 invariant-note_select-loop-arm l =
-    least_with_all l.found (select_findings (standing_of l.standing) l.cases (arms_from (map part_items (drop l.arm-index l.arms))))
-    ≡ least_with_all l.fn.found (select_findings (standing_of l.standing) no_cases (arms_from (map part_items l.arms)))
+    (cases : Cases) × Keeps l.so_far cases
+    × (least_with_all l.found (select_findings (standing_of l.standing) cases (arms_from (map part_items (drop l.arm-index l.arms))))
+    ≡ least_with_all l.fn.found (select_findings (standing_of l.standing) no_cases (arms_from (map part_items l.arms))))
