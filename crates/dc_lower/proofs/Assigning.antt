@@ -28,7 +28,9 @@ use Rattle.dc_code.proofs.Sequences.{sequence-then}
 use Rattle.dc_lower.specs.Assigning.{each_code, storing_code, all_usable, takes_values}
 use Rattle.dc_lower.specs.Expressions.{value_code, is_usable}
 use Rattle.dc_lower.specs.Placed.{StandAt, HaveNames, IsOutside}
-use Rattle.dc_lower.proofs.Expressions.{all_pushed, pushed-names, taken-all, element-there, both-true, outer_place_of, outer-places, plus-one, plus-none, behind-two, value-law}
+use Rattle.dc_lower.proofs.Expressions.{behind-two, value-law}
+use Rattle.dc_lower.proofs.Operators.{all_pushed, pushed-names, taken-all, element-there, both-true, plus-one, plus-none}
+use Rattle.dc_lower.proofs.Wholes.{outer_place_of, outer-places}
 use Rattle.dc_lower.proofs.Placing.{stand-left, stand-right, stand-rest, stepped}
 use Rattle.dc_meaning.proofs.Positions.{position-below}
 

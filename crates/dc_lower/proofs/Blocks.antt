@@ -1,8 +1,8 @@
 -- The instructions of a block carry it out, statement by statement.
-use Rattle.std.proofs.Common.{◌≡◌, ℕ, zero, suc, ◌+◌, Bool, true, false, ◌&&◌, List, [], ◌∷◌, ◌++◌, length, map, Option, Some, None, refl, sym, ap, ◌∙◌, subst, arith}
+use Rattle.std.proofs.Common.{◌≡◌, ℕ, zero, suc, ◌+◌, Bool, true, List, [], ◌∷◌, ◌++◌, length, Some, refl, sym, ap, ◌∙◌, subst, arith}
 use Rattle.std.proofs.lemmas.Bool.{false≢true}
 use Rattle.std.proofs.lemmas.Option.{none-some, same_Some}
-use Rattle.std.specs.Prelude.{ℤ, min, slice_get}
+use Rattle.std.specs.Prelude.{min, slice_get}
 use Rattle.dc_code.specs.declared.instr.Instr.{Instr}
 use Rattle.dc_code.specs.declared.instr.What.{What}
 use Rattle.dc_code.specs.Codes.{CodeLists}
@@ -12,20 +12,20 @@ use Rattle.dc_code.specs.Frames.{Frame}
 use Rattle.dc_code.specs.Machine.{machine}
 use Rattle.dc_code.specs.Troubles.{Computing, Slots, enter_loop}
 use Rattle.dc_code.proofs.Sequences.{sequence-then}
-use Rattle.dc_tree.specs.Blocks.{Line, Item, Items, plain, branch, select, loop, none, and_then}
+use Rattle.dc_tree.specs.Blocks.{Line, Items, plain, branch, select, loop, none, and_then}
 use Rattle.dc_tree.specs.Entities.{Scope, entity}
 use Rattle.dc_tree.specs.Statements.{Deed, assign, fill, call, cycle, exit, return, continue, stop, error_stop, print, read, Statement, program_line, use_line, implicit_none, declare, contains_line, procedure_line, end_line, if_then, else_if, else_line, end_if, if_action, select_case, case, case_default, end_select, do_line, do_while, end_do, concurrent, act}
 use Rattle.dc_meaning.specs.Actions as actions
 use Rattle.dc_meaning.specs.Actions.{Flow, on}
 use Rattle.dc_meaning.specs.Acts as acts
 use Rattle.dc_meaning.specs.Acts.{State}
-use Rattle.dc_meaning.specs.Execution.{exec, exec_all, behind_item, plain_line, is_concurrent, loops_in, loop_of}
+use Rattle.dc_meaning.specs.Execution.{exec_all, behind_item, plain_line, is_concurrent, loops_in, loop_of}
 use Rattle.dc_meaning.specs.Values.{Callee}
-use Rattle.dc_lower.specs.Blocks.{lined, InstrsStand, deed_code, texts_of_deed, deed_is_lowered, says_code, texts_of_item, texts_of_block, item_code, block_code, says_is_lowered, item_is_lowered, block_is_lowered, part_code}
+use Rattle.dc_lower.specs.Blocks.{lined, InstrsStand, deed_code, texts_of_deed, deed_is_lowered, says_code, texts_of_item, texts_of_block, block_code, says_is_lowered, block_is_lowered, part_code}
 use Rattle.dc_lower.specs.Placed.{StandAt, HaveNames, IsLineless}
 use Rattle.dc_lower.specs.Printing.{TextsStand}
 use Rattle.dc_lower.proofs.Assigning.{assignment-law}
-use Rattle.dc_lower.proofs.Expressions.{both-true, plus-one, plus-none}
+use Rattle.dc_lower.proofs.Operators.{both-true, plus-one, plus-none}
 use Rattle.dc_lower.proofs.Placing.{get-left, get-right, stepped}
 use Rattle.dc_lower.proofs.Printing.{texts-left, texts-right, printing-law}
 

@@ -3,10 +3,9 @@ use Rattle.std.specs.Prelude.{◌≡◌, ℕ, ◌+◌, Bool, true, false, ◌&&�
 use Rattle.dc_code.specs.declared.instr.Instr.{Instr}
 use Rattle.dc_code.specs.declared.instr.What.{What}
 use Rattle.dc_code.specs.Codes.{CodeLists}
-use Rattle.dc_tree.specs.Blocks.{Line, Item, Items, plain, loop, none, and_then}
+use Rattle.dc_tree.specs.Blocks.{Item, Items, plain, loop, none, and_then}
 use Rattle.dc_tree.specs.Entities.{Scope, entity}
 use Rattle.dc_tree.specs.Statements.{Deed, assign, print, Statement, act}
-use Rattle.dc_tree.specs.Syntax.{Tree}
 use Rattle.dc_meaning.specs.Execution.{is_concurrent, loops_in}
 use Rattle.dc_lower.specs.Assigning.{assignment_code, takes_values}
 use Rattle.dc_lower.specs.Expressions.{is_usable}

@@ -1,7 +1,7 @@
-use Rattle.std.proofs.Common.{◌≡◌, Bool, true, ◌&&◌, refl, ap, ◌∙◌}
+use Rattle.std.proofs.Common.{refl}
 use Rattle.dc_tree.specs.Entities.{entity}
 use Rattle.dc_lower.proofs.Assigning.{assignment-law}
-use Rattle.dc_lower.proofs.Expressions.{both-hold}
+use Rattle.dc_lower.proofs.Operators.{both-hold}
 use Rattle.dc_lower.proofs.law.instructions_of_an_assignment_carry_it_out.Goals as goal
 
 pub returns : goal.returns
