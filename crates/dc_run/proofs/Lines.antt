@@ -5,8 +5,8 @@ use Rattle.std.proofs.lemmas.List.{map-append}
 use Rattle.std.specs.Prelude.{not, flat_map, IsTrue, ◌↔◌}
 use Rattle.dc_lists.specs.Output.{rest_of_line, line_of}
 use Rattle.dc_meaning.specs.declared.output.Piece.{Piece}
+use Rattle.dc_meaning.specs.OutputPieces.{piece_text}
 use Rattle.dc_meaning.specs.Pieces.{piece_of}
-use Rattle.dc_run.specs.Playing.{piece_text}
 use Rattle.dc_run.specs.Running.{behind_blanks, texts_of, all_texts}
 
 -- ---- a line

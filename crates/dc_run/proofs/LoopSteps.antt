@@ -1,6 +1,6 @@
 -- What a loop does to a run.
 use Rattle.std.proofs.Common.{◌≡◌, ◌+◌, ◌&&◌, ℕ, true, cond, List, [], ◌∷◌, Option, None, refl, ap, ◌∙◌, arith}
-use Rattle.std.specs.Prelude.{ℤ}
+use Rattle.std.specs.Prelude.{ℤ, min}
 use Rattle.std.proofs.lemmas.Bool.{and_parts}
 use Rattle.dc_code.specs.declared.verdict.Verdict as answers
 use Rattle.dc_code.specs.Computation.{give, sequence}
@@ -43,14 +43,16 @@ behind-visit before after loops = record { ledger = after; output = before.outpu
 
 module _ (given : List ℕ) (looping : Looping) (symbols : List Symbol) (before : standings.Standing) (after : View) (loops turns : ℕ) (next : Flow × State → Computing Unit) where
   abbrev rest : Standing → ℤ → Outcome
-  rest then_at told = played looping then_at (sequence (give (on, record { frames = (state_in [] turns).frames; turns = natural told })) next)
+  rest then_at told = played looping then_at (sequence (give (on, record { frames = (state_in [] turns).frames; turns = min (natural told) turns })) next)
 
   abbrev visit-told : Visited → Told
   visit-told found = told_behind before.output (visits_loop (λ number slots left store. found) (at_of given before) before.loops turns [] rest)
 
   said-told : (said : answers.Verdict) → bounds_in before.ledger.store (seen said) ≡ bounds_named symbols said
       → visit-told (visit_of (seen said) after.store turns) ≡ told_after given looping symbols (behind-visit before after loops) (next (on, state_in [] turns)) (stopped_by said)
-  said-told answers.Verdict.GoOn bounds = refl
+  said-told answers.Verdict.GoOn bounds =
+      let same : min turns turns ≡ turns = omega arith in
+      ap (λ left. told_behind before.output (played looping (at_of given (behind-visit before after loops)) (next (on, record { frames = (state_in [] turns).frames; turns = left })))) same
   said-told (answers.Verdict.HeaderFault why line mask) bounds = nothing-more before.output _ ∙ ap (λ b. record { output = before.output; ending = endings.stopped (seen (answers.Verdict.HeaderFault why line mask)) b }) bounds
   said-told (answers.Verdict.IterFault why line at) bounds = nothing-more before.output _ ∙ ap (λ b. record { output = before.output; ending = endings.stopped (seen (answers.Verdict.IterFault why line at)) b }) bounds
   said-told (answers.Verdict.IterSpent line at) bounds = nothing-more before.output _ ∙ ap (λ b. record { output = before.output; ending = endings.stopped (seen (answers.Verdict.IterSpent line at)) b }) bounds

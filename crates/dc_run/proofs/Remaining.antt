@@ -3,6 +3,7 @@ use Rattle.std.proofs.Common.{◌≡◌, ◌≤◌, ◌<◌, ◌+◌, ℕ, zero,
 use Rattle.dc_code.specs.Computation.{give, sequence}
 use Rattle.dc_code.specs.Inner.{Forms}
 use Rattle.dc_code.specs.Troubles.{Computing}
+use Rattle.dc_code.proofs.Sequences.{sequence-then}
 use Rattle.dc_tree.specs.declared.program.Node.{Node}
 use Rattle.dc_tree.specs.declared.symbols.Symbol.{Symbol}
 use Rattle.dc_tree.specs.Blocks.{Line, Item, Items, plain, branch, select, loop, and_then, item, items_from}
@@ -14,7 +15,6 @@ use Rattle.dc_meaning.specs.Alone.{nth_loop}
 use Rattle.dc_meaning.specs.Execution.{loops_in, exec, exec_all, behind_item}
 use Rattle.dc_meaning.specs.Values.{Callee}
 use Rattle.dc_meaning.specs.Walking.{state_in}
-use Rattle.dc_meaning.proofs.Walking.{sequence-then}
 use Rattle.dc_run.specs.declared.ending.Ending as code
 use Rattle.dc_run.specs.declared.running.Standing as standings
 use Rattle.dc_run.specs.Answered.{ending_of}

@@ -18,7 +18,6 @@ use Rattle.dc_code.specs.Troubles.{Trouble, raced, inside, Computing, Slots, Eve
 use Rattle.dc_code.specs.Verdicts.{Verdict, go_on, at_header, in_iteration, race, side, trouble_in}
 use Rattle.dc_code.specs.Visits.{Visited, visited}
 use Rattle.dc_lists.specs.Input as input
-use Rattle.dc_lists.specs.Output.{line_of}
 use Rattle.dc_tree.specs.declared.symbols.Symbol.{Symbol}
 use Rattle.dc_tree.specs.Blocks.{Source}
 use Rattle.dc_tree.specs.BuiltPrograms.{is_built}
@@ -29,7 +28,7 @@ use Rattle.dc_run.specs.declared.ending.Ending as endings
 use Rattle.dc_run.specs.declared.running.RunOut.{RunOut}
 use Rattle.dc_run.specs.Answered.{ending_of, IsRunOf}
 use Rattle.dc_run.specs.Headline.{Reports}
-use Rattle.dc_run.specs.Playing.{Visit, bounds_in, Outcome, Standing, Looping, piece_text, greatest_output, ends_with, behind_output, behind_visit, fails_with, with_input, with_store, takes_one, takes_each, ends_reading, behind_loop, answered, played, looping_by, run}
+use Rattle.dc_run.specs.Playing.{Visit, bounds_in, Outcome, Standing, Looping, greatest_output, ends_with, behind_output, behind_visit, fails_with, with_input, with_store, takes_one, takes_each, ends_reading, behind_loop, answered, played, looping_by, run}
 use Rattle.dc_run.specs.ReportLine.{Ending, done, bad, stopped, outside_names}
 use Rattle.dc_run.specs.ReportLine as lines
 use Rattle.dc_run.specs.Visits.{loop_at, IsJudged, HoldsAt, in_header, in_orders, WentOn, EndsOutsideLoops, EndsBy}
@@ -129,8 +128,7 @@ module _ (looping : Looping) (names : List (List ℕ)) (P : Visit → Type 0)
       (raced found.element (side found.first first) (side found.second second) []) refl here
 
   good-pause : (at : Standing) (event : Event) (rest : Standing → ℤ → Outcome) → GoodThen rest → Good (answered looping at event rest)
-  good-pause at (write_line line pieces) rest good =
-      let bytes = line_of (map piece_text pieces) in
+  good-pause at (write_line line bytes) rest good =
       good-line line bytes (rest (record { store = at.store; input = at.input; used = _ }) _) (nat_le _ greatest_output) (good _ _)
   good-pause at (take_value line sort) rest good = good-one at line (input.take_value sort at.input) rest good
   good-pause at (take_elements line sort elements) rest good = good-each line sort elements at rest good

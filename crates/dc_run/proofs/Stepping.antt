@@ -4,9 +4,11 @@ use Rattle.std.specs.Prelude.{Ok, Err, nat_le, flat_map}
 use Rattle.dc_int.specs.declared.fault.FaultKind.{FaultKind}
 use Rattle.dc_int.specs.declared.fault.Why.{Why}
 use Rattle.dc_code.specs.Computation.{Reached, done, bad, sequence, over, SameShape}
-use Rattle.dc_code.specs.Troubles.{Failure, Computing, Event, write_line, Piece}
+use Rattle.dc_code.specs.Troubles.{Failure, Computing, Event, write_line}
 use Rattle.dc_code.proofs.Runs.{replayed}
+use Rattle.dc_code.proofs.Sequences.{sequence-then}
 use Rattle.dc_code.proofs.Stores.{shape-after, shape-then}
+use Rattle.dc_lists.specs.Output.{line_of}
 use Rattle.dc_plain.specs.Views.{View}
 use Rattle.dc_tree.specs.declared.symbols.Symbol.{Symbol}
 use Rattle.dc_tree.specs.Entities.{Scope}
@@ -15,11 +17,12 @@ use Rattle.dc_meaning.specs.declared.output.Piece.{Piece as CodePiece}
 use Rattle.dc_meaning.specs.declared.stop.Stop.{Stop}
 use Rattle.dc_meaning.specs.Actions.{Flow, on, ◌>>◌, pieces, paused_for, printing}
 use Rattle.dc_meaning.specs.Acts.{Act, just, for_each}
+use Rattle.dc_meaning.specs.OutputPieces.{Piece, piece_text}
 use Rattle.dc_meaning.specs.Pieces.{piece_of}
 use Rattle.dc_meaning.specs.Programs.{first_store}
 use Rattle.dc_meaning.specs.Values.{Callee}
 use Rattle.dc_meaning.specs.Walking.{seen_over, state_in, Stays}
-use Rattle.dc_meaning.proofs.Walking.{seen-run, sequence-then, stays-bad}
+use Rattle.dc_meaning.proofs.Walking.{seen-run, stays-bad}
 use Rattle.dc_run.specs.declared.ending.Ending as code
 use Rattle.dc_run.specs.declared.running.Standing as standings
 use Rattle.dc_run.specs.Answered.{ending_of, NamesOwn}
@@ -113,7 +116,7 @@ abbrev all-of : List (List CodePiece) → List (List Piece)
 all-of made = map (map piece_of) made
 
 abbrev written-then : ℕ → List (List Piece) → Act Flow
-written-then line given = paused_for (write_line line (flat_map (λ items. items) given)) >> just on
+written-then line given = paused_for (write_line line (line_of (map piece_text (flat_map (λ items. items) given)))) >> just on
 
 module _ (given : List ℕ) (looping : Looping) (symbols : List Symbol) (before : standings.Standing) (after : View) (line : ℕ) (bytes output : List ℕ) (next : Computing Unit) where
   abbrev behind-line : ℕ → Outcome

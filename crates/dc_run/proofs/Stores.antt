@@ -16,7 +16,6 @@ use Rattle.dc_code.specs.Troubles.{Computing, Slots, Event, write_line, take_val
 use Rattle.dc_code.specs.Verdicts.{Verdict, go_on, at_header, in_iteration, race}
 use Rattle.dc_code.specs.Visits.{Visited}
 use Rattle.dc_lists.specs.Input as input
-use Rattle.dc_lists.specs.Output.{line_of}
 use Rattle.dc_tree.specs.declared.symbols.Symbol.{Symbol}
 use Rattle.dc_tree.specs.Blocks.{Source}
 use Rattle.dc_tree.specs.BuiltPrograms.{greatest_names, greatest_elements, elements_of_all, is_built_symbol, are_built_symbols, is_built}
@@ -25,7 +24,7 @@ use Rattle.dc_meaning.specs.Programs.{first_store, main_computation}
 use Rattle.dc_meaning.proofs.Doing.{Any, Only}
 use Rattle.dc_meaning.proofs.EveryOrder.{visit-fits}
 use Rattle.dc_meaning.proofs.Passing.{built-source}
-use Rattle.dc_run.specs.Playing.{Visit, Outcome, Standing, Looping, piece_text, greatest_output, fails_with, behind_output, behind_visit, with_input, with_store, takes_one, takes_each, ends_reading, behind_loop, answered, played, looping_by, run}
+use Rattle.dc_run.specs.Playing.{Visit, Outcome, Standing, Looping, greatest_output, fails_with, behind_output, behind_visit, with_input, with_store, takes_one, takes_each, ends_reading, behind_loop, answered, played, looping_by, run}
 use Rattle.dc_run.specs.Stores.{declared_shapes, Fits, IsAmong, StoresFit, stores_taken, stores_taken_each, stores_read, stores_left, stores_behind, stores_from}
 use Rattle.dc_run.proofs.Fitting.{TakesNothing, keeping, shapes-sorted, main-keeps}
 use Rattle.dc_run.proofs.FirstFits.{first-fits}
@@ -72,8 +71,8 @@ module _ (symbols : List Symbol) (looping : Looping)
 
   behind-fit : (at : Standing) (event : Event) (later : Standing → ℤ → List Store) → TakesNothing event → Fits symbols at.store → FitThen later
       → AllFit (stores_behind looping at event later)
-  behind-fit at (write_line line pieces) later takes fits all =
-      let used = at.used + length (line_of (map piece_text pieces)) in
+  behind-fit at (write_line line bytes) later takes fits all =
+      let used = at.used + length bytes in
       let then_at : Standing = record { store = at.store; input = at.input; used = used } in
       written-fit (later then_at (pos 0)) (nat_le used greatest_output) (all then_at (pos 0) fits)
   behind-fit at (take_value line sort) later takes fits all = taken-fit at (input.take_value sort at.input) later fits all
@@ -182,8 +181,7 @@ module _ (at : Standing) (number turns : ℕ) (slots : Slots) (rest : Standing �
 module _ (looping : Looping) where
   pause-among : (at : Standing) (event : Event) (rest : Standing → ℤ → Outcome) (later : Standing → ℤ → List Store) → AmongThen rest later
       → AllAmong at (answered looping at event rest) (stores_behind looping at event later)
-  pause-among at (write_line line pieces) rest later all =
-      let bytes = line_of (map piece_text pieces) in
+  pause-among at (write_line line bytes) rest later all =
       let then_at : Standing = record { store = at.store; input = at.input; used = at.used + length bytes } in
       written-among at line bytes (rest then_at (pos 0)) (later then_at (pos 0)) (nat_le (at.used + length bytes) greatest_output) (all then_at (pos 0))
   pause-among at (take_value line sort) rest later all = taken-among at line (input.take_value sort at.input) rest later all

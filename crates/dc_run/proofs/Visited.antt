@@ -45,7 +45,7 @@ through-shape enter keeps store orders (pause (enter_loop number turns slots) re
     by : (passage next : Passage) → SameShape store passage.store → SameShape passage.store next.store → (b : Bool) → SameShape store (cond b (passage_behind passage.entries next) passage).store
     by passage next first second true = shape-then store passage.store next.store first second
     by passage next first second false = first
-through-shape enter keeps store orders (pause (write_line line pieces) rest) = through-shape enter keeps store orders (rest (pos 0))
+through-shape enter keeps store orders (pause (write_line line bytes) rest) = through-shape enter keeps store orders (rest (pos 0))
 through-shape enter keeps store orders (pause (take_value line sort) rest) = through-shape enter keeps store orders (rest (pos 0))
 through-shape enter keeps store orders (pause (take_elements line sort elements) rest) = through-shape enter keeps store orders (rest (pos 0))
 through-shape enter keeps store orders (pause (end_reading line items) rest) = through-shape enter keeps store orders (rest (pos 0))

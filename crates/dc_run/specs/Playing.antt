@@ -1,6 +1,6 @@
 -- The run of a main program over a store and an input: its output, how it ends, and its loops. After
 -- ISO/IEC 1539-1:2023, clauses 5.3.5 and 12.6; the limit of the output is this project's own.
-use Rattle.std.specs.Prelude.{ℕ, ◌+◌, nat_le, List, [], ◌∷◌, ◌++◌, map, length, Option, Some, None, Result, Ok, Err, if◌then◌else◌, ℤ, pos}
+use Rattle.std.specs.Prelude.{ℕ, ◌+◌, nat_le, List, [], ◌∷◌, ◌++◌, length, Option, Some, None, Result, Ok, Err, if◌then◌else◌, ℤ, pos}
 use Rattle.dc_int.specs.declared.access.ElementId.{ElementId}
 use Rattle.dc_int.specs.declared.fault.FaultKind.{FaultKind}
 use Rattle.dc_int.specs.declared.fault.Why.{Why}
@@ -8,11 +8,10 @@ use Rattle.dc_int.specs.Sorts.{Sort}
 use Rattle.dc_int.specs.Store.{Bounds, Store, value_at, put_at, bounds_of}
 use Rattle.dc_code.specs.Computation.{give, fail, read, define, undefine, contribute, ask, pause}
 use Rattle.dc_code.specs.Inner.{Rule, nested_loop, greatest_depth}
-use Rattle.dc_code.specs.Troubles.{Trouble, raced, Computing, Slots, Piece, value, text, Event, write_line, take_value, take_elements, end_reading, enter_loop, stop}
+use Rattle.dc_code.specs.Troubles.{Trouble, raced, Computing, Slots, Event, write_line, take_value, take_elements, end_reading, enter_loop, stop}
 use Rattle.dc_code.specs.Verdicts.{Verdict, go_on, in_iteration, race}
 use Rattle.dc_code.specs.Visits.{Visited, visited}
 use Rattle.dc_lists.specs.Input as input
-use Rattle.dc_lists.specs.Output.{written, line_of}
 use Rattle.dc_tree.specs.declared.symbols.Symbol.{Symbol}
 use Rattle.dc_tree.specs.Blocks.{Source}
 use Rattle.dc_meaning.specs.Programs.{first_store, main_computation, program_forms}
@@ -52,10 +51,6 @@ abbrev pub behind_visit : Visit → Outcome → Outcome
 behind_visit visit outcome = record { output = outcome.output; ending = outcome.ending; visits = visit ∷ outcome.visits }
 
 -- ---- output
-
-abbrev pub piece_text : Piece → List ℕ
-piece_text (value sort z) = written sort z
-piece_text (text bytes) = bytes
 
 abbrev pub greatest_output : ℕ
 greatest_output = 16777216
@@ -132,7 +127,7 @@ visits_loop looping at number turns slots rest = by (looping number slots turns 
 
 -- What is done at a pause, and then the rest with what it is told.
 abbrev pub answered : Looping → Standing → Event → (Standing → ℤ → Outcome) → Outcome
-answered looping at (write_line line pieces) rest = writes at line (line_of (map piece_text pieces)) rest
+answered looping at (write_line line bytes) rest = writes at line bytes rest
 answered looping at (take_value line sort) rest = takes_one at line (input.take_value sort at.input) rest
 answered looping at (take_elements line sort elements) rest = takes_each line sort elements at rest
 answered looping at (end_reading line items) rest = ends_reading at line (input.end_reading items at.input) rest

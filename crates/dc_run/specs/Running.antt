@@ -22,6 +22,7 @@ use Rattle.dc_meaning.specs.Acts.{State, Act}
 use Rattle.dc_meaning.specs.Alone.{nth_loop}
 use Rattle.dc_meaning.specs.Execution.{exec_all}
 use Rattle.dc_meaning.specs.Headers.{inside_frame}
+use Rattle.dc_meaning.specs.OutputPieces.{piece_text}
 use Rattle.dc_meaning.specs.Pieces.{piece_of}
 use Rattle.dc_meaning.specs.Programs.{first_store}
 use Rattle.dc_meaning.specs.Values.{Callee}
@@ -30,7 +31,7 @@ use Rattle.dc_meaning.specs.Walking.{state_in}
 use Rattle.dc_run.specs.declared.ending.Ending as code
 use Rattle.dc_run.specs.declared.running.Standing as standings
 use Rattle.dc_run.specs.Answered.{ending_of, IsElement, NamesOwn}
-use Rattle.dc_run.specs.Playing.{Outcome, Standing, Looping, piece_text, greatest_output, played}
+use Rattle.dc_run.specs.Playing.{Outcome, Standing, Looping, greatest_output, played}
 use Rattle.dc_run.specs.ReportLine.{Ending}
 
 -- ---- output

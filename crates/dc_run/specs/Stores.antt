@@ -1,6 +1,6 @@
 -- The stores of a run, one after another, and what it is for them to fit the declared variables. This project's
 -- own, on ISO/IEC 1539-1:2023, clauses 7.4, 8.5.8 and 19.6.
-use Rattle.std.specs.Prelude.{◌≡◌, ℕ, ◌+◌, nat_le, true, List, [], ◌∷◌, map, filter_map, length, All, Option, Some, None, Result, Ok, Err, if◌then◌else◌, ℤ, pos}
+use Rattle.std.specs.Prelude.{◌≡◌, ℕ, ◌+◌, nat_le, true, List, [], ◌∷◌, filter_map, length, All, Option, Some, None, Result, Ok, Err, if◌then◌else◌, ℤ, pos}
 use Rattle.std.specs.List.{Contains}
 use Rattle.dc_int.specs.declared.access.ElementId.{ElementId}
 use Rattle.dc_int.specs.declared.fault.FaultKind.{FaultKind}
@@ -14,13 +14,12 @@ use Rattle.dc_code.specs.Troubles.{Computing, Event, write_line, take_value, tak
 use Rattle.dc_code.specs.Verdicts.{Verdict, go_on}
 use Rattle.dc_code.specs.Visits.{Visited}
 use Rattle.dc_lists.specs.Input as input
-use Rattle.dc_lists.specs.Output.{line_of}
 use Rattle.dc_tree.specs.declared.symbols.Role as roles
 use Rattle.dc_tree.specs.declared.symbols.Symbol.{Symbol}
 use Rattle.dc_tree.specs.Blocks.{Source}
 use Rattle.dc_tree.specs.Entities.{symbols_in}
 use Rattle.dc_meaning.specs.Programs.{first_store, main_computation}
-use Rattle.dc_run.specs.Playing.{Visit, Standing, Looping, piece_text, greatest_output, with_input, with_store, looping_by}
+use Rattle.dc_run.specs.Playing.{Visit, Standing, Looping, greatest_output, with_input, with_store, looping_by}
 
 -- ---- the declared variables
 
@@ -74,7 +73,7 @@ stores_left at found rest = found.store ∷ by found.verdict
 
 -- The stores that follow a pause.
 abbrev pub stores_behind : Looping → Standing → Event → (Standing → ℤ → List Store) → List Store
-stores_behind looping at (write_line line pieces) rest = stores_written at (line_of (map piece_text pieces)) rest
+stores_behind looping at (write_line line bytes) rest = stores_written at bytes rest
 stores_behind looping at (take_value line sort) rest = stores_taken at (input.take_value sort at.input) rest
 stores_behind looping at (take_elements line sort elements) rest = stores_taken_each sort elements at rest
 stores_behind looping at (end_reading line items) rest = stores_read at (input.end_reading items at.input) rest

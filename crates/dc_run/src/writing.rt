@@ -4,8 +4,9 @@ ghost use Rattle.std.specs.Prelude.{◌≡◌, ◌≤◌, ◌++◌, length, OnOk
 ghost use Rattle.dc_int.specs.Reductions.{truth};
 ghost use Rattle.dc_lists.specs.Output.{written};
 ghost use Rattle.dc_sorts.specs.Forms.{sort_of_form};
+ghost use Rattle.dc_meaning.specs.OutputPieces.{piece_text};
 ghost use Rattle.dc_meaning.specs.Pieces.{piece_of};
-ghost use Rattle.dc_run.specs.Playing.{piece_text, greatest_output};
+ghost use Rattle.dc_run.specs.Playing.{greatest_output};
 ghost use Rattle.dc_run.specs.Running.{behind_blanks, texts_of, pieces_line, IsWritten};
 
 use crate::ending::Ending;
