@@ -1,10 +1,10 @@
 //! `Frame`, all that the machine holds beside the store.
 
-ghost use Rattle.std.specs.Prelude.{◌≡◌, ◌≤◌, ◌<◌, ◌++◌, [], ◌∷◌, ℕ, ℤ, Some, false, length, IfOk, OnOk, OnErr, IsTrue};
+ghost use Rattle.std.specs.Prelude.{◌≡◌, ◌≤◌, ◌<◌, ◌++◌, [], ◌∷◌, ℕ, ℤ, Some, false, length, option_map, slice_get, IfOk, OnOk, OnErr, IsTrue};
 ghost use Rattle.dc_int.specs.declared.kind.Kind.{Kind};
 ghost use Rattle.dc_int.specs.Sorts.{sort_with};
 ghost use Rattle.dc_code.specs.Codes.{is_small};
-ghost use Rattle.dc_code.specs.Frames.{pushed, level, innermost, innermost_changed, entered, fresh_unit, left_unit, slot_of, slot_put, with_units, put, with_line};
+ghost use Rattle.dc_code.specs.Frames.{UnitFrame, pushed, level, innermost, innermost_changed, entered, fresh_unit, left_unit, slot_of, slot_put, with_units, put, with_line};
 ghost use Rattle.dc_code.specs.Machine.{new_frame};
 ghost use Rattle.dc_code.specs.Operands.{item_off, value_off, position_off};
 ghost use Rattle.dc_code.specs.Reaching.{dummy, group_slots, group_set};
@@ -208,6 +208,14 @@ impl Frame {
         ensures { result ≡ (innermost self.now).plan }
     {
         self.innermost().plan()
+    }
+
+    /// The number of the plan of a unit, where there is such a unit.
+    pub fn plan_of(&self, level: u32) -> Option<u32>
+        ensures { result
+            ≡ option_map (λ (unit : UnitFrame). unit.plan) (slice_get self.now.units level) }
+    {
+        Some(self.units.get(level as usize)?.plan())
     }
 
     /// The place in the code to which the innermost unit returns.
