@@ -55,9 +55,24 @@ joins_truths Mark.Eqv = true
 joins_truths Mark.Neqv = true
 joins_truths mark = false
 
--- Logical operators join LOGICALs. Arithmetic and relations join INTEGERs, whose kinds may differ.
+abbrev pub joins_numbers : Mark → Bool
+joins_numbers Mark.Plus = true
+joins_numbers Mark.Minus = true
+joins_numbers Mark.Times = true
+joins_numbers Mark.Slash = true
+joins_numbers Mark.Power = true
+joins_numbers Mark.Eq = true
+joins_numbers Mark.Ne = true
+joins_numbers Mark.Lt = true
+joins_numbers Mark.Le = true
+joins_numbers Mark.Gt = true
+joins_numbers Mark.Ge = true
+joins_numbers mark = false
+
+-- Logical operators join LOGICALs. Arithmetic and relations join INTEGERs, whose kinds may differ. No other mark
+-- joins operands, and none is read between them.
 abbrev pub takes_two : Mark → Form → Form → Bool
-takes_two mark a b = if joins_truths mark then is_logical a && is_logical b else is_whole a && is_whole b
+takes_two mark a b = if joins_truths mark then is_logical a && is_logical b else joins_numbers mark && (is_whole a && is_whole b)
 
 -- ---- arguments
 

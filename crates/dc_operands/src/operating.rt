@@ -2,7 +2,7 @@
 
 ghost use Rattle.std.specs.Prelude.{◌≡◌, ◌&&◌};
 ghost use Rattle.dc_operands.specs.Arguments.{is_logical, is_whole};
-ghost use Rattle.dc_operands.specs.Operands.{joins_truths, takes_one, takes_two, is_variable, is_array};
+ghost use Rattle.dc_operands.specs.Operands.{joins_truths, joins_numbers, takes_one, takes_two, is_variable, is_array};
 
 use crate::forms::{is_logical, is_whole};
 use dc_sorts::{Form, Meaning};
@@ -35,13 +35,23 @@ fn are_whole(a: Form, b: Form) -> bool
     is_whole(a) && is_whole(b)
 }
 
+fn joins_numbers(mark: Mark) -> bool
+    ensures { result ≡ joins_numbers mark }
+{
+    match mark {
+        Mark::Plus | Mark::Minus | Mark::Times | Mark::Slash | Mark::Power => true,
+        Mark::Eq | Mark::Ne | Mark::Lt | Mark::Le | Mark::Gt | Mark::Ge => true,
+        _ => false,
+    }
+}
+
 pub(crate) fn takes_two(mark: Mark, a: Form, b: Form) -> bool
     ensures { result ≡ takes_two mark a b }
 {
     if joins_truths(mark) {
         are_logical(a, b)
     } else {
-        are_whole(a, b)
+        joins_numbers(mark) && are_whole(a, b)
     }
 }
 
