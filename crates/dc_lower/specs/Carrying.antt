@@ -3,6 +3,7 @@ use Rattle.std.specs.Prelude.{◌≡◌, ℕ, ◌+◌, Bool, true, List, [], ◌
 use Rattle.dc_code.specs.declared.instr.Instr.{Instr}
 use Rattle.dc_code.specs.declared.frame.Item.{Item}
 use Rattle.dc_code.specs.declared.instr.What.{What}
+use Rattle.dc_code.specs.declared.plan.Group.{Group}
 use Rattle.dc_code.specs.Codes.{CodeLists}
 use Rattle.dc_code.specs.Computation.{give, sequence}
 use Rattle.dc_code.specs.Frames.{Frame, pushed}
@@ -12,7 +13,7 @@ use Rattle.dc_tree.specs.Entities.{Scope}
 use Rattle.dc_meaning.specs.Actions.{Flow, on}
 use Rattle.dc_meaning.specs.Acts.{State, Act}
 use Rattle.dc_lower.specs.Blocks.{InstrsStand}
-use Rattle.dc_lower.specs.Placed.{StandAt, HaveNames, IsLineless}
+use Rattle.dc_lower.specs.Placed.{StandAt, HaveNames, HaveKept, IsLineless}
 
 -- A run of the machine from a place is what is meant, and then what goes on behind the instructions, where the value
 -- is on top of the stack: the same accesses in the same order, and the same faults.
@@ -35,9 +36,11 @@ CarryOut code scope line whats meant =
 abbrev pub inside : Slots → ℕ → State
 inside own turns = record { frames = record { slots = own; dummies = [] } ∷ []; turns = turns }
 
--- The same of a whole part, which leaves its frame and the turns. Where loops stand in it nothing is around them.
-abbrev pub RunPart : CodeLists → Scope → (loops : Bool) → List Instr → Act Flow → Type 0
-RunPart code scope loops instrs meant =
-    (at : ℕ) (frame : Frame) (own : Slots) (turns : ℕ) → ((left : ℕ) → HaveNames code scope frame (inside own left)) → IsLineless frame → InstrsStand code at instrs
+-- The same of a whole part, which leaves the turns; what it leaves in its frame isn't asked for. It may use the groups
+-- that are added for it from a number on. Where loops stand in it nothing is around them.
+abbrev pub RunPart : CodeLists → Scope → (loops : Bool) → (free : ℕ) → List Group → List Instr → Act Flow → Type 0
+RunPart code scope loops free groups instrs meant =
+    (at : ℕ) (frame : Frame) (own : Slots) (turns : ℕ) → ((left : ℕ) → HaveNames code scope frame (inside own left))
+    → HaveKept code scope frame free groups → IsLineless frame → InstrsStand code at instrs
     → (loops ≡ true → own ≡ [])
-    → machine code at frame turns ≡ sequence (meant (inside own turns)) (λ w. give (frame, (w.1).turns))
+    → sequence (machine code at frame turns) (λ w. give w.1) ≡ sequence (meant (inside own turns)) (λ w. give (w.1).turns)

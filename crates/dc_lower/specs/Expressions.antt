@@ -69,10 +69,15 @@ abbrev pub about : Option ℤ → ℤ
 about (Some z) = z
 about None = pos 0
 
+-- POPCNT has kind 4 whatever the kind of its argument.
+abbrev pub operation_code : Op → Kind → List What
+operation_code Op.Popcnt its_kind = What.Arith Op.Popcnt its_kind ∷ What.Wrap Kind.K4 ∷ []
+operation_code op its_kind = What.Arith op its_kind ∷ []
+
 -- By the sort of the first argument. `given` has the instructions of all arguments, `first` of the first alone, and
 -- `each` those of the first, and of each other with the operation behind it.
 abbrev pub function_code : Scope → Intrinsic → Args → Sort → (given first : List What) → (Op → Kind → List What) → List What
-function_code scope (operation op) args sort given first each = given ++ What.Arith op (kind_of sort) ∷ []
+function_code scope (operation op) args sort given first each = given ++ operation_code op (kind_of sort)
 function_code scope (chosen op) args sort given first each = each op (kind_of sort)
 function_code scope merge args sort given first each = given ++ What.Merge ∷ []
 function_code scope converted args sort given first each = first ++ What.Wrap (kind_converted (constants_of scope args)) ∷ []
@@ -98,7 +103,7 @@ abbrev mutual
   pub value_code : Scope → Tree → List What
   value_code scope (number digits suffix) = What.Const (kind_with_suffix scope suffix) (pos (number_of digits)) ∷ []
   value_code scope (syntax.truth given) = What.Truth given ∷ []
-  value_code scope (chars text) = What.Const Kind.K4 (pos 0) ∷ []
+  value_code scope (chars text) = What.Truth false ∷ []
   value_code scope (name text) = entity_code (entity scope text)
   value_code scope (refer text args) =
       referred_code scope (entity scope text) (intrinsic text) args (values_code scope args) (first_code scope args) (λ op its_kind. chosen_code scope op its_kind args)

@@ -2,5 +2,9 @@ pub mod Assigning
 pub mod Blocks
 pub mod Carrying
 pub mod Expressions
+pub mod Lowerable
+pub mod Lowered
 pub mod Placed
 pub mod Printing
+pub mod Subscripts
+pub mod Typed

@@ -1,5 +1,5 @@
 -- Where instructions stand in a code, and what a frame has of the names of a scope. This project's own.
-use Rattle.std.specs.Prelude.{◌≡◌, false, [], ℕ, ◌+◌, ◌-◌, List, map, length, slice_get, Some, ℤ}
+use Rattle.std.specs.Prelude.{◌≡◌, false, [], ℕ, ◌+◌, ◌-◌, ◌<◌, List, map, length, slice_get, Some, ℤ}
 use Rattle.std.specs.List.{range_with_len}
 use Rattle.dc_int.specs.declared.variable.Shape.{Shape}
 use Rattle.dc_int.specs.Reductions.{truth, number_of_truth}
@@ -41,6 +41,12 @@ pub record HaveNames (code : CodeLists) (scope : Scope) (frame : Frame) (state :
   pub outer : (text : Name) (variable : ℕ) (sort : Sort) (bounds : Bounds) → entity scope text ≡ outside variable sort bounds → IsOutside code variable sort bounds
   pub inner : (text : Name) (group : ℕ) (sort : Sort) (bounds : Bounds) → entity scope text ≡ slots group sort bounds → IsGroup code frame state group sort bounds
   pub truths : (text : Name) (z : ℤ) → entity scope text ≡ constant logical z → number_of_truth (truth z) ≡ z
+
+-- A frame has the groups that are added for the statements of a part, from a number on, behind those of its names.
+pub record HaveKept (code : CodeLists) (scope : Scope) (frame : Frame) (free : ℕ) (groups : List Group) : Type 0 where
+  pub planned : (i : ℕ) (group : Group) → slice_get groups i ≡ Some group → group_planned code frame (free + i) ≡ Some group
+  pub sized : (i : ℕ) (group : Group) → slice_get groups i ≡ Some group → length (group_slots frame (free + i)) ≡ elements_in group.bounds
+  pub apart : (text : Name) (group : ℕ) (sort : Sort) (bounds : Bounds) → entity scope text ≡ slots group sort bounds → group < free
 
 -- A frame between two output lines.
 pub record IsLineless (frame : Frame) : Type 0 where
