@@ -20,8 +20,7 @@ use Rattle.dc_code.specs.declared.instr.What.{What}
 use Rattle.dc_code.specs.Codes.{CodeLists, element}
 use Rattle.dc_lower.specs.Expressions.{constant_code, entity_code, led_code, joined_code, gives_value}
 use Rattle.dc_code.specs.Frames.{Frame, pushed}
-use Rattle.dc_code.specs.Machine.{machine}
-use Rattle.dc_code.specs.Instructions.{act, behind, computed, settled, takes_one}
+use Rattle.dc_code.specs.Instructions.{Going, act, behind, computed, settled, takes_one}
 use Rattle.dc_code.specs.Operands.{values_off, required, stuck}
 use Rattle.dc_code.specs.Reaching.{positioned, within_bounds, element_sort, sort_of_shape, group_planned, group_bounds}
 use Rattle.dc_lower.specs.Placed.{StandAt, HaveNames, IsOutside, IsGroup}
@@ -33,6 +32,7 @@ use Rattle.dc_meaning.specs.Values as meanings
 use Rattle.dc_meaning.specs.Values.{Callee, value, values, first_value, refer_value, referred, intrinsic_value, array_named}
 use Rattle.dc_meaning.proofs.Positions.{position-below}
 use Rattle.dc_code.proofs.Sequences.{Gives, sequence-then, same-then}
+use Rattle.dc_lower.proofs.Going.{goes_behind, GoesAs}
 use Rattle.dc_lower.proofs.Placing.{stand-rest, stepped}
 
 -- The values, the last on top.
@@ -48,19 +48,19 @@ pushed-names item names = record {
 }
 
 -- What follows a value that the instructions leave, or what they end with.
-abbrev pub Law : CodeLists → ℕ → List What → Frame → State → Computing (ℤ × State) → Type 0
-Law code at whats frame state c =
+abbrev pub Law : Going → ℕ → List What → Frame → State → Computing (ℤ × State) → Type 0
+Law go at whats frame state c =
     (K : ℤ × State → Computing (Frame × ℕ))
-    → ((z : ℤ) → machine code (at + length whats) (pushed (Item.Value z) frame) state.turns ≡ K (z, state))
-    → machine code at frame state.turns ≡ sequence c K
+    → ((z : ℤ) → go (at + length whats) (pushed (Item.Value z) frame) state.turns ≡ K (z, state))
+    → go at frame state.turns ≡ sequence c K
 
 pub plus-one : (at : ℕ) → suc at ≡ at + 1
 plus-one at = omega arith
 
-pub number-law : (code : CodeLists) (line at : ℕ) (frame : Frame) (state : State) (its_kind : Kind) (z : ℤ) → StandAt code line at (What.Const its_kind z ∷ [])
-    → Law code at (What.Const its_kind z ∷ []) frame state (give (z, state))
-number-law code line at frame state its_kind z stand K later =
-    stepped at (What.Const its_kind z) [] frame state.turns stand ∙ ap (λ place. machine code place (pushed (Item.Value z) frame) state.turns) (plus-one at) ∙ later z
+pub number-law : (code : CodeLists) (go : Going) (goes : GoesAs code go) (line at : ℕ) (frame : Frame) (state : State) (its_kind : Kind) (z : ℤ) → StandAt code line at (What.Const its_kind z ∷ [])
+    → Law go at (What.Const its_kind z ∷ []) frame state (give (z, state))
+number-law code go goes line at frame state its_kind z stand K later =
+    stepped goes at (What.Const its_kind z) [] frame state.turns stand refl ∙ ap (λ place. go place (pushed (Item.Value z) frame) state.turns) (plus-one at) ∙ later z
 
 -- ---- computations
 
@@ -130,37 +130,37 @@ element-there {code} {variable} {sort} is position within =
     inside : nat_lt position is.shape.elements ≡ true
     inside = lt-ltb position is.shape.elements (subst (λ n. position < n) (sym is.elements) within)
 
-pub outside-law : (code : CodeLists) (call : Callee) (line at : ℕ) (frame : Frame) (state : State) (variable : ℕ) (sort : Sort) (bounds : Bounds) (zs : List ℤ)
+pub outside-law : (code : CodeLists) (go : Going) (goes : GoesAs code go) (call : Callee) (line at : ℕ) (frame : Frame) (state : State) (variable : ℕ) (sort : Sort) (bounds : Bounds) (zs : List ℤ)
     → StandAt code line at (What.Subscript variable ∷ What.Load variable ∷ []) → IsOutside code variable sort bounds → length zs ≡ length bounds
     → (K : ℤ × State → Computing (Frame × ℕ))
-    → ((z : ℤ) → machine code (at + 2) (pushed (Item.Value z) frame) state.turns ≡ K (z, state))
-    → machine code at (all_pushed zs frame) state.turns ≡ sequence (refer_value call line (outside variable sort bounds) zs state) K
-outside-law code call line at frame state variable sort bounds zs stand is ranked K later =
-    stepped at (What.Subscript variable) (What.Load variable ∷ []) (all_pushed zs frame) state.turns stand
-    ∙ ap (λ found. behind (machine code) at state.turns (positioned line found (all_pushed zs frame))) is.bounds
-    ∙ ap (λ n. sequence (sequence (values_off line n (all_pushed zs frame)) positioning) (λ left. machine code (suc at) left state.turns)) (sym ranked)
-    ∙ ap (λ c. sequence (sequence c positioning) (λ left. machine code (suc at) left state.turns)) (taken-all line zs frame)
+    → ((z : ℤ) → go (at + 2) (pushed (Item.Value z) frame) state.turns ≡ K (z, state))
+    → go at (all_pushed zs frame) state.turns ≡ sequence (refer_value call line (outside variable sort bounds) zs state) K
+outside-law code go goes call line at frame state variable sort bounds zs stand is ranked K later =
+    stepped goes at (What.Subscript variable) (What.Load variable ∷ []) (all_pushed zs frame) state.turns stand refl
+    ∙ ap (λ found. behind go at state.turns (positioned line found (all_pushed zs frame))) is.bounds
+    ∙ ap (λ n. sequence (sequence (values_off line n (all_pushed zs frame)) positioning) (λ left. go (suc at) left state.turns)) (sym ranked)
+    ∙ ap (λ c. sequence (sequence c positioning) (λ left. go (suc at) left state.turns)) (taken-all line zs frame)
     ∙ placed (position_in bounds zs) refl
   where
     positioning : List ℤ × Frame → Computing Frame
     positioning w = sequence (within_bounds line (position_in bounds w.0)) (λ at. give (pushed (Item.Position at) w.1))
 
     answered : (x : ElementId) (z : Option ℤ)
-        → sequence (sequence (required line z) (λ z. give (pushed (Item.Value z) frame))) (λ left. machine code (suc (suc at)) left state.turns)
+        → sequence (sequence (required line z) (λ z. give (pushed (Item.Value z) frame))) (λ left. go (suc (suc at)) left state.turns)
         ≡ sequence (acts.required line z state) K
     answered x None = refl
-    answered x (Some z) = ap (λ place. machine code place (pushed (Item.Value z) frame) state.turns) (two-on at) ∙ later z
+    answered x (Some z) = ap (λ place. go place (pushed (Item.Value z) frame) state.turns) (two-on at) ∙ later z
       where
         two-on : (at : ℕ) → suc (suc at) ≡ at + 2
         two-on at = omega arith
 
     placed : (found : Option ℕ) → position_in bounds zs ≡ found
-        → sequence (sequence (within_bounds line (position_in bounds zs)) (λ at. give (pushed (Item.Position at) frame))) (λ left. machine code (suc at) left state.turns)
+        → sequence (sequence (within_bounds line (position_in bounds zs)) (λ at. give (pushed (Item.Position at) frame))) (λ left. go (suc at) left state.turns)
         ≡ sequence (refer_value call line (outside variable sort bounds) zs state) K
     placed None e = rw e refl
     placed (Some position) e = rw e (
-        stepped (suc at) (What.Load variable) [] (pushed (Item.Position position) frame) state.turns (stand-rest at (What.Subscript variable) (What.Load variable ∷ []) stand)
-        ∙ ap (λ found. sequence (sequence (cond (is_some found) (read (element variable position) line (required line)) (stuck line)) (λ z. give (pushed (Item.Value z) frame))) (λ left. machine code (suc (suc at)) left state.turns))
+        stepped goes (suc at) (What.Load variable) [] (pushed (Item.Position position) frame) state.turns (stand-rest at (What.Subscript variable) (What.Load variable ∷ []) stand) refl
+        ∙ ap (λ found. sequence (sequence (cond (is_some found) (read (element variable position) line (required line)) (stuck line)) (λ z. give (pushed (Item.Value z) frame))) (λ left. go (suc (suc at)) left state.turns))
         (element-there is position (position-below bounds zs position e))
         ∙ (λ i. read (element variable position) line (λ z. answered (element variable position) z i)))
 
@@ -172,38 +172,38 @@ pub all-planned : (code : CodeLists) (zs : List ℤ) (frame : Frame) (group : �
 all-planned code [] frame group = refl
 all-planned code (z ∷ zs) frame group = all-planned code zs (pushed (Item.Value z) frame) group
 
-pub slots-law : (code : CodeLists) (call : Callee) (line at : ℕ) (frame : Frame) (state : State) (group : ℕ) (sort : Sort) (bounds : Bounds) (zs : List ℤ)
+pub slots-law : (code : CodeLists) (go : Going) (goes : GoesAs code go) (call : Callee) (line at : ℕ) (frame : Frame) (state : State) (group : ℕ) (sort : Sort) (bounds : Bounds) (zs : List ℤ)
     → StandAt code line at (What.SubscriptSlot group ∷ What.LoadSlot group ∷ []) → IsGroup code frame state group sort bounds → length zs ≡ length bounds
     → (K : ℤ × State → Computing (Frame × ℕ))
-    → ((z : ℤ) → machine code (at + 2) (pushed (Item.Value z) frame) state.turns ≡ K (z, state))
-    → machine code at (all_pushed zs frame) state.turns ≡ sequence (refer_value call line (slots group sort bounds) zs state) K
-slots-law code call line at frame state group sort bounds zs stand is ranked K later =
-    stepped at (What.SubscriptSlot group) (What.LoadSlot group ∷ []) (all_pushed zs frame) state.turns stand
-    ∙ ap (λ found. behind (machine code) at state.turns (positioned line (group_bounds found) (all_pushed zs frame))) (all-planned code zs frame group ∙ is.plan)
-    ∙ ap (λ bs. behind (machine code) at state.turns (positioned line (Some bs) (all_pushed zs frame))) is.bounds
-    ∙ ap (λ n. sequence (sequence (values_off line n (all_pushed zs frame)) positioning) (λ left. machine code (suc at) left state.turns)) (sym ranked)
-    ∙ ap (λ c. sequence (sequence c positioning) (λ left. machine code (suc at) left state.turns)) (taken-all line zs frame)
+    → ((z : ℤ) → go (at + 2) (pushed (Item.Value z) frame) state.turns ≡ K (z, state))
+    → go at (all_pushed zs frame) state.turns ≡ sequence (refer_value call line (slots group sort bounds) zs state) K
+slots-law code go goes call line at frame state group sort bounds zs stand is ranked K later =
+    stepped goes at (What.SubscriptSlot group) (What.LoadSlot group ∷ []) (all_pushed zs frame) state.turns stand refl
+    ∙ ap (λ found. behind go at state.turns (positioned line (group_bounds found) (all_pushed zs frame))) (all-planned code zs frame group ∙ is.plan)
+    ∙ ap (λ bs. behind go at state.turns (positioned line (Some bs) (all_pushed zs frame))) is.bounds
+    ∙ ap (λ n. sequence (sequence (values_off line n (all_pushed zs frame)) positioning) (λ left. go (suc at) left state.turns)) (sym ranked)
+    ∙ ap (λ c. sequence (sequence c positioning) (λ left. go (suc at) left state.turns)) (taken-all line zs frame)
     ∙ placed (position_in bounds zs) refl
   where
     positioning : List ℤ × Frame → Computing Frame
     positioning w = sequence (within_bounds line (position_in bounds w.0)) (λ at. give (pushed (Item.Position at) w.1))
 
     answered : (z : Option ℤ)
-        → sequence (sequence (required line z) (λ z. give (pushed (Item.Value z) frame))) (λ left. machine code (suc (suc at)) left state.turns)
+        → sequence (sequence (required line z) (λ z. give (pushed (Item.Value z) frame))) (λ left. go (suc (suc at)) left state.turns)
         ≡ sequence (acts.required line z state) K
     answered None = refl
-    answered (Some z) = ap (λ place. machine code place (pushed (Item.Value z) frame) state.turns) (two-on at) ∙ later z
+    answered (Some z) = ap (λ place. go place (pushed (Item.Value z) frame) state.turns) (two-on at) ∙ later z
       where
         two-on : (at : ℕ) → suc (suc at) ≡ at + 2
         two-on at = omega arith
 
     placed : (found : Option ℕ) → position_in bounds zs ≡ found
-        → sequence (sequence (within_bounds line (position_in bounds zs)) (λ at. give (pushed (Item.Position at) frame))) (λ left. machine code (suc at) left state.turns)
+        → sequence (sequence (within_bounds line (position_in bounds zs)) (λ at. give (pushed (Item.Position at) frame))) (λ left. go (suc at) left state.turns)
         ≡ sequence (refer_value call line (slots group sort bounds) zs state) K
     placed None e = rw e refl
     placed (Some position) e = rw e (
-        stepped (suc at) (What.LoadSlot group) [] (pushed (Item.Position position) frame) state.turns (stand-rest at (What.SubscriptSlot group) (What.LoadSlot group ∷ []) stand)
-        ∙ ap (λ found. sequence (sequence (required line found) (λ z. give (pushed (Item.Value z) frame))) (λ left. machine code (suc (suc at)) left state.turns)) (is.same position)
+        stepped goes (suc at) (What.LoadSlot group) [] (pushed (Item.Position position) frame) state.turns (stand-rest at (What.SubscriptSlot group) (What.LoadSlot group ∷ []) stand) refl
+        ∙ ap (λ found. sequence (sequence (required line found) (λ z. give (pushed (Item.Value z) frame))) (λ left. go (suc (suc at)) left state.turns)) (is.same position)
         ∙ answered (acts.slot_of state.frames (length state.frames - 1) group position))
 
 -- ---- names
@@ -222,135 +222,135 @@ no-value (z ∷ zs) e = absurd (none (length zs) (eqb-true (suc (length zs)) 0 e
     none : (n : ℕ) → suc n ≡ 0 → ⊥
     none n e = omega (arith, e)
 
-pub constant-law : (code : CodeLists) (line at : ℕ) (frame : Frame) (state : State) (sort : Sort) (z : ℤ)
-    → StandAt code line at (constant_code sort z) → (sort ≡ logical → number_of_truth (truth z) ≡ z) → Law code at (constant_code sort z) frame state (give (z, state))
-constant-law code line at frame state (whole its_kind) z stand sound K later = number-law code line at frame state its_kind z stand K later
-constant-law code line at frame state logical z stand sound K later =
-    stepped at (What.Truth (truth z)) [] frame state.turns stand
-    ∙ ap (λ place. machine code place (pushed (Item.Value (number_of_truth (truth z))) frame) state.turns) (plus-one at)
-    ∙ ap (λ n. machine code (at + 1) (pushed (Item.Value n) frame) state.turns) (sound refl) ∙ later z
+pub constant-law : (code : CodeLists) (go : Going) (goes : GoesAs code go) (line at : ℕ) (frame : Frame) (state : State) (sort : Sort) (z : ℤ)
+    → StandAt code line at (constant_code sort z) → (sort ≡ logical → number_of_truth (truth z) ≡ z) → Law go at (constant_code sort z) frame state (give (z, state))
+constant-law code go goes line at frame state (whole its_kind) z stand sound K later = number-law code go goes line at frame state its_kind z stand K later
+constant-law code go goes line at frame state logical z stand sound K later =
+    stepped goes at (What.Truth (truth z)) [] frame state.turns stand refl
+    ∙ ap (λ place. go place (pushed (Item.Value (number_of_truth (truth z))) frame) state.turns) (plus-one at)
+    ∙ ap (λ n. go (at + 1) (pushed (Item.Value n) frame) state.turns) (sound refl) ∙ later z
 
-pub entity-law : (code : CodeLists) (scope : Scope) (call : Callee) (line at : ℕ) (frame : Frame) (state : State) (text : Name) (found : Entity) (zs : List ℤ)
+pub entity-law : (code : CodeLists) (go : Going) (goes : GoesAs code go) (scope : Scope) (call : Callee) (line at : ℕ) (frame : Frame) (state : State) (text : Name) (found : Entity) (zs : List ℤ)
     → entity scope text ≡ found → HaveNames code scope frame state → StandAt code line at (entity_code found) → gives_value found (length zs) ≡ true
     → (K : ℤ × State → Computing (Frame × ℕ))
-    → ((z : ℤ) → machine code (at + length (entity_code found)) (pushed (Item.Value z) frame) state.turns ≡ K (z, state))
-    → machine code at (all_pushed zs frame) state.turns ≡ sequence (refer_value call line found zs state) K
-entity-law code scope call line at frame state text (outside variable sort bounds) zs e names stand so K later =
-    outside-law code call line at frame state variable sort bounds zs stand (names.outer text variable sort bounds e) (sym (eqb-true (length bounds) (length zs) so)) K later
-entity-law code scope call line at frame state text (slots group sort bounds) zs e names stand so K later =
-    slots-law code call line at frame state group sort bounds zs stand (names.inner text group sort bounds e) (sym (eqb-true (length bounds) (length zs) so)) K later
-entity-law code scope call line at frame state text (constant sort z) zs e names stand so K later =
-    subst (λ (given : List ℤ). machine code at (all_pushed given frame) state.turns ≡ sequence (refer_value call line (constant sort z) given state) K) (sym (no-value zs so))
-    (constant-law code line at frame state sort z stand (λ is. names.truths text z (e ∙ ap (λ s. constant s z) is)) K later)
-entity-law code scope call line at frame state text (dummy place sort) zs e names stand so K later = absurd (false≢true so)
-entity-law code scope call line at frame state text (function procedure sort) zs e names stand so K later = absurd (false≢true so)
-entity-law code scope call line at frame state text (subroutine procedure intents) zs e names stand so K later = absurd (false≢true so)
-entity-law code scope call line at frame state text (reduction variable op sort bounds) zs e names stand so K later = absurd (false≢true so)
-entity-law code scope call line at frame state text nothing zs e names stand so K later = absurd (false≢true so)
+    → ((z : ℤ) → go (at + length (entity_code found)) (pushed (Item.Value z) frame) state.turns ≡ K (z, state))
+    → go at (all_pushed zs frame) state.turns ≡ sequence (refer_value call line found zs state) K
+entity-law code go goes scope call line at frame state text (outside variable sort bounds) zs e names stand so K later =
+    outside-law code go goes call line at frame state variable sort bounds zs stand (names.outer text variable sort bounds e) (sym (eqb-true (length bounds) (length zs) so)) K later
+entity-law code go goes scope call line at frame state text (slots group sort bounds) zs e names stand so K later =
+    slots-law code go goes call line at frame state group sort bounds zs stand (names.inner text group sort bounds e) (sym (eqb-true (length bounds) (length zs) so)) K later
+entity-law code go goes scope call line at frame state text (constant sort z) zs e names stand so K later =
+    subst (λ (given : List ℤ). go at (all_pushed given frame) state.turns ≡ sequence (refer_value call line (constant sort z) given state) K) (sym (no-value zs so))
+    (constant-law code go goes line at frame state sort z stand (λ is. names.truths text z (e ∙ ap (λ s. constant s z) is)) K later)
+entity-law code go goes scope call line at frame state text (dummy place sort) zs e names stand so K later = absurd (false≢true so)
+entity-law code go goes scope call line at frame state text (function procedure sort) zs e names stand so K later = absurd (false≢true so)
+entity-law code go goes scope call line at frame state text (subroutine procedure intents) zs e names stand so K later = absurd (false≢true so)
+entity-law code go goes scope call line at frame state text (reduction variable op sort bounds) zs e names stand so K later = absurd (false≢true so)
+entity-law code go goes scope call line at frame state text nothing zs e names stand so K later = absurd (false≢true so)
 
 pub plus-none : (at : ℕ) → at ≡ at + 0
 plus-none at = omega arith
 
 -- ---- operators
 
-pub settled-law : (code : CodeLists) (line at : ℕ) (frame : Frame) (state : State) (outcome : Outcome)
+pub settled-law : (code : CodeLists) (go : Going) (goes : GoesAs code go) (line at : ℕ) (frame : Frame) (state : State) (outcome : Outcome)
     → (K : ℤ × State → Computing (Frame × ℕ))
-    → ((z : ℤ) → machine code (at + 1) (pushed (Item.Value z) frame) state.turns ≡ K (z, state))
-    → sequence (sequence (settled line outcome) (λ z. give (pushed (Item.Value z) frame))) (λ left. machine code (suc at) left state.turns)
+    → ((z : ℤ) → go (at + 1) (pushed (Item.Value z) frame) state.turns ≡ K (z, state))
+    → sequence (sequence (settled line outcome) (λ z. give (pushed (Item.Value z) frame))) (λ left. go (suc at) left state.turns)
     ≡ sequence (meanings.settled line outcome state) K
-settled-law code line at frame state (Ok z) K later = ap (λ place. machine code place (pushed (Item.Value z) frame) state.turns) (plus-one at) ∙ later z
-settled-law code line at frame state (Err OpFault.Zero) K later = refl
-settled-law code line at frame state (Err OpFault.Shift) K later = refl
+settled-law code go goes line at frame state (Ok z) K later = ap (λ place. go place (pushed (Item.Value z) frame) state.turns) (plus-one at) ∙ later z
+settled-law code go goes line at frame state (Err OpFault.Zero) K later = refl
+settled-law code go goes line at frame state (Err OpFault.Shift) K later = refl
 
-pub arith-law : (code : CodeLists) (line at : ℕ) (frame : Frame) (state : State) (op : Op) (its_kind : Kind) (a b : ℤ)
+pub arith-law : (code : CodeLists) (go : Going) (goes : GoesAs code go) (line at : ℕ) (frame : Frame) (state : State) (op : Op) (its_kind : Kind) (a b : ℤ)
     → takes_one op ≡ false → StandAt code line at (What.Arith op its_kind ∷ [])
     → (K : ℤ × State → Computing (Frame × ℕ))
-    → ((z : ℤ) → machine code (at + 1) (pushed (Item.Value z) frame) state.turns ≡ K (z, state))
-    → machine code at (pushed (Item.Value b) (pushed (Item.Value a) frame)) state.turns ≡ sequence (meanings.settled line (applied op its_kind a b) state) K
-arith-law code line at frame state op its_kind a b two stand K later =
-    stepped at (What.Arith op its_kind) [] (pushed (Item.Value b) (pushed (Item.Value a) frame)) state.turns stand
-    ∙ ap (λ one. behind (machine code) at state.turns (computed one line op its_kind (pushed (Item.Value b) (pushed (Item.Value a) frame)))) two
-    ∙ settled-law code line at frame state (applied op its_kind a b) K later
+    → ((z : ℤ) → go (at + 1) (pushed (Item.Value z) frame) state.turns ≡ K (z, state))
+    → go at (pushed (Item.Value b) (pushed (Item.Value a) frame)) state.turns ≡ sequence (meanings.settled line (applied op its_kind a b) state) K
+arith-law code go goes line at frame state op its_kind a b two stand K later =
+    stepped goes at (What.Arith op its_kind) [] (pushed (Item.Value b) (pushed (Item.Value a) frame)) state.turns stand refl
+    ∙ ap (λ one. behind go at state.turns (computed one line op its_kind (pushed (Item.Value b) (pushed (Item.Value a) frame)))) two
+    ∙ settled-law code go goes line at frame state (applied op its_kind a b) K later
 
-pub arith-one-law : (code : CodeLists) (line at : ℕ) (frame : Frame) (state : State) (op : Op) (its_kind : Kind) (a : ℤ)
+pub arith-one-law : (code : CodeLists) (go : Going) (goes : GoesAs code go) (line at : ℕ) (frame : Frame) (state : State) (op : Op) (its_kind : Kind) (a : ℤ)
     → takes_one op ≡ true → StandAt code line at (What.Arith op its_kind ∷ [])
     → (K : ℤ × State → Computing (Frame × ℕ))
-    → ((z : ℤ) → machine code (at + 1) (pushed (Item.Value z) frame) state.turns ≡ K (z, state))
-    → machine code at (pushed (Item.Value a) frame) state.turns ≡ sequence (meanings.settled line (applied op its_kind a (pos 0)) state) K
-arith-one-law code line at frame state op its_kind a one stand K later =
-    stepped at (What.Arith op its_kind) [] (pushed (Item.Value a) frame) state.turns stand
-    ∙ ap (λ b. behind (machine code) at state.turns (computed b line op its_kind (pushed (Item.Value a) frame))) one
-    ∙ settled-law code line at frame state (applied op its_kind a (pos 0)) K later
+    → ((z : ℤ) → go (at + 1) (pushed (Item.Value z) frame) state.turns ≡ K (z, state))
+    → go at (pushed (Item.Value a) frame) state.turns ≡ sequence (meanings.settled line (applied op its_kind a (pos 0)) state) K
+arith-one-law code go goes line at frame state op its_kind a one stand K later =
+    stepped goes at (What.Arith op its_kind) [] (pushed (Item.Value a) frame) state.turns stand refl
+    ∙ ap (λ b. behind go at state.turns (computed b line op its_kind (pushed (Item.Value a) frame))) one
+    ∙ settled-law code go goes line at frame state (applied op its_kind a (pos 0)) K later
 
 -- an instruction that leaves a value without a fault
-pub gives-law : (code : CodeLists) (line at : ℕ) (frame before : Frame) (state : State) (what : What) (z : ℤ)
-    → StandAt code line at (what ∷ []) → act code (machine code) line what at before state.turns ≡ machine code (suc at) (pushed (Item.Value z) frame) state.turns
+pub gives-law : (code : CodeLists) (go : Going) (goes : GoesAs code go) (line at : ℕ) (frame before : Frame) (state : State) (what : What) (z : ℤ)
+    → StandAt code line at (what ∷ []) → goes_behind what ≡ true → act code go line what at before state.turns ≡ go (suc at) (pushed (Item.Value z) frame) state.turns
     → (K : ℤ × State → Computing (Frame × ℕ))
-    → ((z : ℤ) → machine code (at + 1) (pushed (Item.Value z) frame) state.turns ≡ K (z, state))
-    → machine code at before state.turns ≡ K (z, state)
-gives-law code line at frame before state what z stand acts K later =
-    stepped at what [] before state.turns stand ∙ acts ∙ ap (λ place. machine code place (pushed (Item.Value z) frame) state.turns) (plus-one at) ∙ later z
+    → ((z : ℤ) → go (at + 1) (pushed (Item.Value z) frame) state.turns ≡ K (z, state))
+    → go at before state.turns ≡ K (z, state)
+gives-law code go goes line at frame before state what z stand further acts K later =
+    stepped goes at what [] before state.turns stand further ∙ acts ∙ ap (λ place. go place (pushed (Item.Value z) frame) state.turns) (plus-one at) ∙ later z
 
-pub joined-law : (code : CodeLists) (line at : ℕ) (frame : Frame) (state : State) (mark : Mark) (sort : Sort) (a b : ℤ)
+pub joined-law : (code : CodeLists) (go : Going) (goes : GoesAs code go) (line at : ℕ) (frame : Frame) (state : State) (mark : Mark) (sort : Sort) (a b : ℤ)
     → StandAt code line at (joined_code mark sort)
     → (K : ℤ × State → Computing (Frame × ℕ))
-    → ((z : ℤ) → machine code (at + 1) (pushed (Item.Value z) frame) state.turns ≡ K (z, state))
-    → machine code at (pushed (Item.Value b) (pushed (Item.Value a) frame)) state.turns ≡ sequence (meanings.settled line (joined_by mark sort a b) state) K
-joined-law code line at frame state Mark.Plus sort a b stand K later = arith-law code line at frame state Op.Add (kind_of sort) a b refl stand K later
-joined-law code line at frame state Mark.Minus sort a b stand K later = arith-law code line at frame state Op.Sub (kind_of sort) a b refl stand K later
-joined-law code line at frame state Mark.Times sort a b stand K later = arith-law code line at frame state Op.Mul (kind_of sort) a b refl stand K later
-joined-law code line at frame state Mark.Slash sort a b stand K later = arith-law code line at frame state Op.Div (kind_of sort) a b refl stand K later
-joined-law code line at frame state Mark.Power sort a b stand K later = arith-law code line at frame state Op.Pow (kind_of sort) a b refl stand K later
-joined-law code line at frame state Mark.Open sort a b stand K later = gives-law code line at frame (pushed (Item.Value b) (pushed (Item.Value a) frame)) state What.Drop _ stand refl K later
-joined-law code line at frame state Mark.Close sort a b stand K later = gives-law code line at frame (pushed (Item.Value b) (pushed (Item.Value a) frame)) state What.Drop _ stand refl K later
-joined-law code line at frame state Mark.OpenList sort a b stand K later = gives-law code line at frame (pushed (Item.Value b) (pushed (Item.Value a) frame)) state What.Drop _ stand refl K later
-joined-law code line at frame state Mark.CloseList sort a b stand K later = gives-law code line at frame (pushed (Item.Value b) (pushed (Item.Value a) frame)) state What.Drop _ stand refl K later
-joined-law code line at frame state Mark.Comma sort a b stand K later = gives-law code line at frame (pushed (Item.Value b) (pushed (Item.Value a) frame)) state What.Drop _ stand refl K later
-joined-law code line at frame state Mark.Colon sort a b stand K later = gives-law code line at frame (pushed (Item.Value b) (pushed (Item.Value a) frame)) state What.Drop _ stand refl K later
-joined-law code line at frame state Mark.Colons sort a b stand K later = gives-law code line at frame (pushed (Item.Value b) (pushed (Item.Value a) frame)) state What.Drop _ stand refl K later
-joined-law code line at frame state Mark.Equals sort a b stand K later = gives-law code line at frame (pushed (Item.Value b) (pushed (Item.Value a) frame)) state What.Drop _ stand refl K later
-joined-law code line at frame state Mark.Eq sort a b stand K later = gives-law code line at frame (pushed (Item.Value b) (pushed (Item.Value a) frame)) state (What.Compare Relation.Eq) _ stand refl K later
-joined-law code line at frame state Mark.Ne sort a b stand K later = gives-law code line at frame (pushed (Item.Value b) (pushed (Item.Value a) frame)) state (What.Compare Relation.Ne) _ stand refl K later
-joined-law code line at frame state Mark.Lt sort a b stand K later = gives-law code line at frame (pushed (Item.Value b) (pushed (Item.Value a) frame)) state (What.Compare Relation.Lt) _ stand refl K later
-joined-law code line at frame state Mark.Le sort a b stand K later = gives-law code line at frame (pushed (Item.Value b) (pushed (Item.Value a) frame)) state (What.Compare Relation.Le) _ stand refl K later
-joined-law code line at frame state Mark.Gt sort a b stand K later = gives-law code line at frame (pushed (Item.Value b) (pushed (Item.Value a) frame)) state (What.Compare Relation.Gt) _ stand refl K later
-joined-law code line at frame state Mark.Ge sort a b stand K later = gives-law code line at frame (pushed (Item.Value b) (pushed (Item.Value a) frame)) state (What.Compare Relation.Ge) _ stand refl K later
-joined-law code line at frame state Mark.Not sort a b stand K later = gives-law code line at frame (pushed (Item.Value b) (pushed (Item.Value a) frame)) state What.Drop _ stand refl K later
-joined-law code line at frame state Mark.And sort a b stand K later = gives-law code line at frame (pushed (Item.Value b) (pushed (Item.Value a) frame)) state What.And _ stand refl K later
-joined-law code line at frame state Mark.Or sort a b stand K later = gives-law code line at frame (pushed (Item.Value b) (pushed (Item.Value a) frame)) state What.Or _ stand refl K later
-joined-law code line at frame state Mark.Eqv sort a b stand K later = gives-law code line at frame (pushed (Item.Value b) (pushed (Item.Value a) frame)) state What.Eqv _ stand refl K later
-joined-law code line at frame state Mark.Neqv sort a b stand K later = gives-law code line at frame (pushed (Item.Value b) (pushed (Item.Value a) frame)) state What.Neqv _ stand refl K later
-joined-law code line at frame state Mark.True sort a b stand K later = gives-law code line at frame (pushed (Item.Value b) (pushed (Item.Value a) frame)) state What.Drop _ stand refl K later
-joined-law code line at frame state Mark.False sort a b stand K later = gives-law code line at frame (pushed (Item.Value b) (pushed (Item.Value a) frame)) state What.Drop _ stand refl K later
+    → ((z : ℤ) → go (at + 1) (pushed (Item.Value z) frame) state.turns ≡ K (z, state))
+    → go at (pushed (Item.Value b) (pushed (Item.Value a) frame)) state.turns ≡ sequence (meanings.settled line (joined_by mark sort a b) state) K
+joined-law code go goes line at frame state Mark.Plus sort a b stand K later = arith-law code go goes line at frame state Op.Add (kind_of sort) a b refl stand K later
+joined-law code go goes line at frame state Mark.Minus sort a b stand K later = arith-law code go goes line at frame state Op.Sub (kind_of sort) a b refl stand K later
+joined-law code go goes line at frame state Mark.Times sort a b stand K later = arith-law code go goes line at frame state Op.Mul (kind_of sort) a b refl stand K later
+joined-law code go goes line at frame state Mark.Slash sort a b stand K later = arith-law code go goes line at frame state Op.Div (kind_of sort) a b refl stand K later
+joined-law code go goes line at frame state Mark.Power sort a b stand K later = arith-law code go goes line at frame state Op.Pow (kind_of sort) a b refl stand K later
+joined-law code go goes line at frame state Mark.Open sort a b stand K later = gives-law code go goes line at frame (pushed (Item.Value b) (pushed (Item.Value a) frame)) state What.Drop _ stand refl refl K later
+joined-law code go goes line at frame state Mark.Close sort a b stand K later = gives-law code go goes line at frame (pushed (Item.Value b) (pushed (Item.Value a) frame)) state What.Drop _ stand refl refl K later
+joined-law code go goes line at frame state Mark.OpenList sort a b stand K later = gives-law code go goes line at frame (pushed (Item.Value b) (pushed (Item.Value a) frame)) state What.Drop _ stand refl refl K later
+joined-law code go goes line at frame state Mark.CloseList sort a b stand K later = gives-law code go goes line at frame (pushed (Item.Value b) (pushed (Item.Value a) frame)) state What.Drop _ stand refl refl K later
+joined-law code go goes line at frame state Mark.Comma sort a b stand K later = gives-law code go goes line at frame (pushed (Item.Value b) (pushed (Item.Value a) frame)) state What.Drop _ stand refl refl K later
+joined-law code go goes line at frame state Mark.Colon sort a b stand K later = gives-law code go goes line at frame (pushed (Item.Value b) (pushed (Item.Value a) frame)) state What.Drop _ stand refl refl K later
+joined-law code go goes line at frame state Mark.Colons sort a b stand K later = gives-law code go goes line at frame (pushed (Item.Value b) (pushed (Item.Value a) frame)) state What.Drop _ stand refl refl K later
+joined-law code go goes line at frame state Mark.Equals sort a b stand K later = gives-law code go goes line at frame (pushed (Item.Value b) (pushed (Item.Value a) frame)) state What.Drop _ stand refl refl K later
+joined-law code go goes line at frame state Mark.Eq sort a b stand K later = gives-law code go goes line at frame (pushed (Item.Value b) (pushed (Item.Value a) frame)) state (What.Compare Relation.Eq) _ stand refl refl K later
+joined-law code go goes line at frame state Mark.Ne sort a b stand K later = gives-law code go goes line at frame (pushed (Item.Value b) (pushed (Item.Value a) frame)) state (What.Compare Relation.Ne) _ stand refl refl K later
+joined-law code go goes line at frame state Mark.Lt sort a b stand K later = gives-law code go goes line at frame (pushed (Item.Value b) (pushed (Item.Value a) frame)) state (What.Compare Relation.Lt) _ stand refl refl K later
+joined-law code go goes line at frame state Mark.Le sort a b stand K later = gives-law code go goes line at frame (pushed (Item.Value b) (pushed (Item.Value a) frame)) state (What.Compare Relation.Le) _ stand refl refl K later
+joined-law code go goes line at frame state Mark.Gt sort a b stand K later = gives-law code go goes line at frame (pushed (Item.Value b) (pushed (Item.Value a) frame)) state (What.Compare Relation.Gt) _ stand refl refl K later
+joined-law code go goes line at frame state Mark.Ge sort a b stand K later = gives-law code go goes line at frame (pushed (Item.Value b) (pushed (Item.Value a) frame)) state (What.Compare Relation.Ge) _ stand refl refl K later
+joined-law code go goes line at frame state Mark.Not sort a b stand K later = gives-law code go goes line at frame (pushed (Item.Value b) (pushed (Item.Value a) frame)) state What.Drop _ stand refl refl K later
+joined-law code go goes line at frame state Mark.And sort a b stand K later = gives-law code go goes line at frame (pushed (Item.Value b) (pushed (Item.Value a) frame)) state What.And _ stand refl refl K later
+joined-law code go goes line at frame state Mark.Or sort a b stand K later = gives-law code go goes line at frame (pushed (Item.Value b) (pushed (Item.Value a) frame)) state What.Or _ stand refl refl K later
+joined-law code go goes line at frame state Mark.Eqv sort a b stand K later = gives-law code go goes line at frame (pushed (Item.Value b) (pushed (Item.Value a) frame)) state What.Eqv _ stand refl refl K later
+joined-law code go goes line at frame state Mark.Neqv sort a b stand K later = gives-law code go goes line at frame (pushed (Item.Value b) (pushed (Item.Value a) frame)) state What.Neqv _ stand refl refl K later
+joined-law code go goes line at frame state Mark.True sort a b stand K later = gives-law code go goes line at frame (pushed (Item.Value b) (pushed (Item.Value a) frame)) state What.Drop _ stand refl refl K later
+joined-law code go goes line at frame state Mark.False sort a b stand K later = gives-law code go goes line at frame (pushed (Item.Value b) (pushed (Item.Value a) frame)) state What.Drop _ stand refl refl K later
 
-pub led-law : (code : CodeLists) (line at : ℕ) (frame : Frame) (state : State) (mark : Mark) (sort : Sort) (a : ℤ)
+pub led-law : (code : CodeLists) (go : Going) (goes : GoesAs code go) (line at : ℕ) (frame : Frame) (state : State) (mark : Mark) (sort : Sort) (a : ℤ)
     → StandAt code line at (led_code mark sort)
     → (K : ℤ × State → Computing (Frame × ℕ))
-    → ((z : ℤ) → machine code (at + length (led_code mark sort)) (pushed (Item.Value z) frame) state.turns ≡ K (z, state))
-    → machine code at (pushed (Item.Value a) frame) state.turns ≡ sequence (meanings.settled line (led_by mark sort a) state) K
-led-law code line at frame state Mark.Minus sort a stand K later = arith-one-law code line at frame state Op.Neg (kind_of sort) a refl stand K later
-led-law code line at frame state Mark.Not sort a stand K later = gives-law code line at frame (pushed (Item.Value a) frame) state What.Not _ stand refl K later
-led-law code line at frame state Mark.Open sort a stand K later = ap (λ place. machine code place (pushed (Item.Value a) frame) state.turns) (plus-none at) ∙ later a
-led-law code line at frame state Mark.Close sort a stand K later = ap (λ place. machine code place (pushed (Item.Value a) frame) state.turns) (plus-none at) ∙ later a
-led-law code line at frame state Mark.OpenList sort a stand K later = ap (λ place. machine code place (pushed (Item.Value a) frame) state.turns) (plus-none at) ∙ later a
-led-law code line at frame state Mark.CloseList sort a stand K later = ap (λ place. machine code place (pushed (Item.Value a) frame) state.turns) (plus-none at) ∙ later a
-led-law code line at frame state Mark.Comma sort a stand K later = ap (λ place. machine code place (pushed (Item.Value a) frame) state.turns) (plus-none at) ∙ later a
-led-law code line at frame state Mark.Colon sort a stand K later = ap (λ place. machine code place (pushed (Item.Value a) frame) state.turns) (plus-none at) ∙ later a
-led-law code line at frame state Mark.Colons sort a stand K later = ap (λ place. machine code place (pushed (Item.Value a) frame) state.turns) (plus-none at) ∙ later a
-led-law code line at frame state Mark.Equals sort a stand K later = ap (λ place. machine code place (pushed (Item.Value a) frame) state.turns) (plus-none at) ∙ later a
-led-law code line at frame state Mark.Plus sort a stand K later = ap (λ place. machine code place (pushed (Item.Value a) frame) state.turns) (plus-none at) ∙ later a
-led-law code line at frame state Mark.Times sort a stand K later = ap (λ place. machine code place (pushed (Item.Value a) frame) state.turns) (plus-none at) ∙ later a
-led-law code line at frame state Mark.Slash sort a stand K later = ap (λ place. machine code place (pushed (Item.Value a) frame) state.turns) (plus-none at) ∙ later a
-led-law code line at frame state Mark.Power sort a stand K later = ap (λ place. machine code place (pushed (Item.Value a) frame) state.turns) (plus-none at) ∙ later a
-led-law code line at frame state Mark.Eq sort a stand K later = ap (λ place. machine code place (pushed (Item.Value a) frame) state.turns) (plus-none at) ∙ later a
-led-law code line at frame state Mark.Ne sort a stand K later = ap (λ place. machine code place (pushed (Item.Value a) frame) state.turns) (plus-none at) ∙ later a
-led-law code line at frame state Mark.Lt sort a stand K later = ap (λ place. machine code place (pushed (Item.Value a) frame) state.turns) (plus-none at) ∙ later a
-led-law code line at frame state Mark.Le sort a stand K later = ap (λ place. machine code place (pushed (Item.Value a) frame) state.turns) (plus-none at) ∙ later a
-led-law code line at frame state Mark.Gt sort a stand K later = ap (λ place. machine code place (pushed (Item.Value a) frame) state.turns) (plus-none at) ∙ later a
-led-law code line at frame state Mark.Ge sort a stand K later = ap (λ place. machine code place (pushed (Item.Value a) frame) state.turns) (plus-none at) ∙ later a
-led-law code line at frame state Mark.And sort a stand K later = ap (λ place. machine code place (pushed (Item.Value a) frame) state.turns) (plus-none at) ∙ later a
-led-law code line at frame state Mark.Or sort a stand K later = ap (λ place. machine code place (pushed (Item.Value a) frame) state.turns) (plus-none at) ∙ later a
-led-law code line at frame state Mark.Eqv sort a stand K later = ap (λ place. machine code place (pushed (Item.Value a) frame) state.turns) (plus-none at) ∙ later a
-led-law code line at frame state Mark.Neqv sort a stand K later = ap (λ place. machine code place (pushed (Item.Value a) frame) state.turns) (plus-none at) ∙ later a
-led-law code line at frame state Mark.True sort a stand K later = ap (λ place. machine code place (pushed (Item.Value a) frame) state.turns) (plus-none at) ∙ later a
-led-law code line at frame state Mark.False sort a stand K later = ap (λ place. machine code place (pushed (Item.Value a) frame) state.turns) (plus-none at) ∙ later a
+    → ((z : ℤ) → go (at + length (led_code mark sort)) (pushed (Item.Value z) frame) state.turns ≡ K (z, state))
+    → go at (pushed (Item.Value a) frame) state.turns ≡ sequence (meanings.settled line (led_by mark sort a) state) K
+led-law code go goes line at frame state Mark.Minus sort a stand K later = arith-one-law code go goes line at frame state Op.Neg (kind_of sort) a refl stand K later
+led-law code go goes line at frame state Mark.Not sort a stand K later = gives-law code go goes line at frame (pushed (Item.Value a) frame) state What.Not _ stand refl refl K later
+led-law code go goes line at frame state Mark.Open sort a stand K later = ap (λ place. go place (pushed (Item.Value a) frame) state.turns) (plus-none at) ∙ later a
+led-law code go goes line at frame state Mark.Close sort a stand K later = ap (λ place. go place (pushed (Item.Value a) frame) state.turns) (plus-none at) ∙ later a
+led-law code go goes line at frame state Mark.OpenList sort a stand K later = ap (λ place. go place (pushed (Item.Value a) frame) state.turns) (plus-none at) ∙ later a
+led-law code go goes line at frame state Mark.CloseList sort a stand K later = ap (λ place. go place (pushed (Item.Value a) frame) state.turns) (plus-none at) ∙ later a
+led-law code go goes line at frame state Mark.Comma sort a stand K later = ap (λ place. go place (pushed (Item.Value a) frame) state.turns) (plus-none at) ∙ later a
+led-law code go goes line at frame state Mark.Colon sort a stand K later = ap (λ place. go place (pushed (Item.Value a) frame) state.turns) (plus-none at) ∙ later a
+led-law code go goes line at frame state Mark.Colons sort a stand K later = ap (λ place. go place (pushed (Item.Value a) frame) state.turns) (plus-none at) ∙ later a
+led-law code go goes line at frame state Mark.Equals sort a stand K later = ap (λ place. go place (pushed (Item.Value a) frame) state.turns) (plus-none at) ∙ later a
+led-law code go goes line at frame state Mark.Plus sort a stand K later = ap (λ place. go place (pushed (Item.Value a) frame) state.turns) (plus-none at) ∙ later a
+led-law code go goes line at frame state Mark.Times sort a stand K later = ap (λ place. go place (pushed (Item.Value a) frame) state.turns) (plus-none at) ∙ later a
+led-law code go goes line at frame state Mark.Slash sort a stand K later = ap (λ place. go place (pushed (Item.Value a) frame) state.turns) (plus-none at) ∙ later a
+led-law code go goes line at frame state Mark.Power sort a stand K later = ap (λ place. go place (pushed (Item.Value a) frame) state.turns) (plus-none at) ∙ later a
+led-law code go goes line at frame state Mark.Eq sort a stand K later = ap (λ place. go place (pushed (Item.Value a) frame) state.turns) (plus-none at) ∙ later a
+led-law code go goes line at frame state Mark.Ne sort a stand K later = ap (λ place. go place (pushed (Item.Value a) frame) state.turns) (plus-none at) ∙ later a
+led-law code go goes line at frame state Mark.Lt sort a stand K later = ap (λ place. go place (pushed (Item.Value a) frame) state.turns) (plus-none at) ∙ later a
+led-law code go goes line at frame state Mark.Le sort a stand K later = ap (λ place. go place (pushed (Item.Value a) frame) state.turns) (plus-none at) ∙ later a
+led-law code go goes line at frame state Mark.Gt sort a stand K later = ap (λ place. go place (pushed (Item.Value a) frame) state.turns) (plus-none at) ∙ later a
+led-law code go goes line at frame state Mark.Ge sort a stand K later = ap (λ place. go place (pushed (Item.Value a) frame) state.turns) (plus-none at) ∙ later a
+led-law code go goes line at frame state Mark.And sort a stand K later = ap (λ place. go place (pushed (Item.Value a) frame) state.turns) (plus-none at) ∙ later a
+led-law code go goes line at frame state Mark.Or sort a stand K later = ap (λ place. go place (pushed (Item.Value a) frame) state.turns) (plus-none at) ∙ later a
+led-law code go goes line at frame state Mark.Eqv sort a stand K later = ap (λ place. go place (pushed (Item.Value a) frame) state.turns) (plus-none at) ∙ later a
+led-law code go goes line at frame state Mark.Neqv sort a stand K later = ap (λ place. go place (pushed (Item.Value a) frame) state.turns) (plus-none at) ∙ later a
+led-law code go goes line at frame state Mark.True sort a stand K later = ap (λ place. go place (pushed (Item.Value a) frame) state.turns) (plus-none at) ∙ later a
+led-law code go goes line at frame state Mark.False sort a stand K later = ap (λ place. go place (pushed (Item.Value a) frame) state.turns) (plus-none at) ∙ later a

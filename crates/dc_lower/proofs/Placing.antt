@@ -1,14 +1,13 @@
 -- Where parts of instructions stand, and the machine's next step there.
-use Rattle.std.proofs.Common.{◌≡◌, ℕ, zero, suc, ◌+◌, List, [], ◌∷◌, ◌++◌, length, Some, refl, ap, ◌∙◌, subst, arith}
+use Rattle.std.proofs.Common.{◌≡◌, ℕ, true, zero, suc, ◌+◌, List, [], ◌∷◌, ◌++◌, length, Some, refl, ap, ◌∙◌, subst, arith}
 use Rattle.std.proofs.lemmas.Option.{none-some}
 use Rattle.std.specs.Prelude.{slice_get}
 use Rattle.dc_code.specs.declared.instr.What.{What}
 use Rattle.dc_code.specs.Codes.{CodeLists}
 use Rattle.dc_code.specs.Frames.{Frame}
-use Rattle.dc_code.specs.Instructions.{act}
-use Rattle.dc_code.specs.Machine.{machine, fetched}
+use Rattle.dc_code.specs.Instructions.{Going, act}
 use Rattle.dc_lower.specs.Placed.{StandAt}
-use Rattle.dc_code.proofs.Unfolding.{unfolds}
+use Rattle.dc_lower.proofs.Going.{goes_behind, GoesAs}
 
 pub get-left : {A : Type 0} (first second : List A) (i : ℕ) (item : A) → slice_get first i ≡ Some item → slice_get (first ++ second) i ≡ Some item
 get-left [] second zero item e = absurd (none-some item e)
@@ -47,10 +46,11 @@ stand-rest {code} {line} at what rest stand =
     behind : (i : ℕ) → at + suc i ≡ suc at + i
     behind i = omega arith
 
--- The machine carries out the instruction that stands there.
-pub stepped : {code : CodeLists} {line : ℕ} (at : ℕ) (what : What) (rest : List What) (frame : Frame) (turns : ℕ) → StandAt code line at (what ∷ rest)
-    → machine code at frame turns ≡ act code (machine code) line what at frame turns
-stepped {code} {line} at what rest frame turns stand = unfolds code at frame turns ∙ ap (λ found. fetched code (machine code) found at frame turns) here
-  where
-    here : slice_get code.instructions at ≡ Some (record { line = line; what = what })
-    here = subst (λ place. slice_get code.instructions place ≡ Some (record { line = line; what = what })) (omega arith) (stand.each 0 what refl)
+pub stand-first : {code : CodeLists} {line : ℕ} (at : ℕ) (what : What) (rest : List What) → StandAt code line at (what ∷ rest)
+    → slice_get code.instructions at ≡ Some (record { line = line; what = what })
+stand-first {code} {line} at what rest stand = subst (λ place. slice_get code.instructions place ≡ Some (record { line = line; what = what })) (omega arith) (stand.each 0 what refl)
+
+-- A run that goes on as the machine does carries out the instruction that stands there.
+pub stepped : {code : CodeLists} {go : Going} {line : ℕ} (goes : GoesAs code go) (at : ℕ) (what : What) (rest : List What) (frame : Frame) (turns : ℕ) → StandAt code line at (what ∷ rest)
+    → goes_behind what ≡ true → go at frame turns ≡ act code go line what at frame turns
+stepped {code} {go} {line} goes at what rest frame turns stand behind = goes.each at line what frame turns (stand-first at what rest stand) behind

@@ -11,9 +11,8 @@ use Rattle.dc_code.specs.declared.frame.Place.{Place}
 use Rattle.dc_code.specs.declared.instr.What.{What}
 use Rattle.dc_code.specs.Codes.{CodeLists, element, elements_of_shape}
 use Rattle.dc_code.specs.Frames.{Frame, pushed, level, slot_of}
-use Rattle.dc_code.specs.Machine.{machine}
 use Rattle.dc_code.specs.declared.instr.Folding.{Folding}
-use Rattle.dc_code.specs.Instructions.{folded, folding_pushed, slot_folding_pushed, behind}
+use Rattle.dc_code.specs.Instructions.{Going, folded, folding_pushed, slot_folding_pushed, behind}
 use Rattle.dc_code.specs.Operands.{required, stuck}
 use Rattle.dc_code.specs.Reaching.{all_read, all_required}
 use Rattle.dc_lower.specs.Placed.{StandAt, IsOutside, IsGroup}
@@ -22,6 +21,7 @@ use Rattle.dc_meaning.specs.Acts as acts
 use Rattle.dc_meaning.specs.Acts.{State}
 use Rattle.dc_meaning.specs.Places.{place_of, whole_values}
 use Rattle.dc_code.proofs.Sequences.{sequence-then}
+use Rattle.dc_lower.proofs.Going.{GoesAs}
 use Rattle.dc_lower.proofs.Placing.{stepped}
 use Rattle.dc_lower.proofs.Operators.{plus-one, element-there}
 
@@ -69,20 +69,20 @@ reads-law {B} code line variable sort bounds state is from (suc many) within k K
         ∙ sym (sequence-then (acts.for_each (acts.refer_to line) (map (outer_place_of variable) (range_with_len (from + 1) many)) state) (λ v. give (z ∷ v.0, v.1)) K)
 
 -- The instruction that folds an outside array gives what the function gives of its values.
-pub fold-law : (code : CodeLists) (line at : ℕ) (frame : Frame) (state : State) (folding : Folding) (of_values : List ℤ → ℤ) (variable : ℕ) (sort : Sort) (bounds : Bounds)
+pub fold-law : (code : CodeLists) (go : Going) (goes : GoesAs code go) (line at : ℕ) (frame : Frame) (state : State) (folding : Folding) (of_values : List ℤ → ℤ) (variable : ℕ) (sort : Sort) (bounds : Bounds)
     → IsOutside code variable sort bounds → ((is : IsOutside code variable sort bounds) (zs : List ℤ) → folded folding (is.shape).kind zs ≡ of_values zs)
     → StandAt code line at (What.Fold folding variable ∷ [])
     → (K : ℤ × State → Computing (Frame × ℕ))
-    → ((z : ℤ) → machine code (at + 1) (pushed (Item.Value z) frame) state.turns ≡ K (z, state))
-    → machine code at frame state.turns ≡ sequence (sequence (whole_values line (outside variable sort bounds) state) (λ w. give (of_values w.0, w.1))) K
-fold-law code line at frame state folding of_values variable sort bounds is same stand K later =
-    stepped at (What.Fold folding variable) [] frame state.turns stand
-    ∙ ap (λ found. behind (machine code) at state.turns (folding_pushed code line folding variable found frame)) is.shaped
-    ∙ ap (λ found. sequence (sequence (all_read code line (map (element variable) (range_with_len 0 (elements_of_shape found)))) (λ zs. give (pushed (Item.Value (folded folding (is.shape).kind zs)) frame))) (λ left. machine code (suc at) left state.turns)) is.shaped
-    ∙ ap (λ n. sequence (sequence (all_read code line (map (element variable) (range_with_len 0 n))) (λ zs. give (pushed (Item.Value (folded folding (is.shape).kind zs)) frame))) (λ left. machine code (suc at) left state.turns)) is.elements
-    ∙ sequence-then (all_read code line (map (element variable) (range_with_len 0 (elements_in bounds)))) (λ zs. give (pushed (Item.Value (folded folding (is.shape).kind zs)) frame)) (λ left. machine code (suc at) left state.turns)
-    ∙ reads-law code line variable sort bounds state is 0 (elements_in bounds) (omega arith) (λ zs. machine code (suc at) (pushed (Item.Value (folded folding (is.shape).kind zs)) frame) state.turns)
-    (λ w. K (of_values w.0, w.1)) (λ zs. ap (λ z. machine code (suc at) (pushed (Item.Value z) frame) state.turns) (same is zs) ∙ ap (λ place. machine code place (pushed (Item.Value (of_values zs)) frame) state.turns) (plus-one at) ∙ later (of_values zs))
+    → ((z : ℤ) → go (at + 1) (pushed (Item.Value z) frame) state.turns ≡ K (z, state))
+    → go at frame state.turns ≡ sequence (sequence (whole_values line (outside variable sort bounds) state) (λ w. give (of_values w.0, w.1))) K
+fold-law code go goes line at frame state folding of_values variable sort bounds is same stand K later =
+    stepped goes at (What.Fold folding variable) [] frame state.turns stand refl
+    ∙ ap (λ found. behind go at state.turns (folding_pushed code line folding variable found frame)) is.shaped
+    ∙ ap (λ found. sequence (sequence (all_read code line (map (element variable) (range_with_len 0 (elements_of_shape found)))) (λ zs. give (pushed (Item.Value (folded folding (is.shape).kind zs)) frame))) (λ left. go (suc at) left state.turns)) is.shaped
+    ∙ ap (λ n. sequence (sequence (all_read code line (map (element variable) (range_with_len 0 n))) (λ zs. give (pushed (Item.Value (folded folding (is.shape).kind zs)) frame))) (λ left. go (suc at) left state.turns)) is.elements
+    ∙ sequence-then (all_read code line (map (element variable) (range_with_len 0 (elements_in bounds)))) (λ zs. give (pushed (Item.Value (folded folding (is.shape).kind zs)) frame)) (λ left. go (suc at) left state.turns)
+    ∙ reads-law code line variable sort bounds state is 0 (elements_in bounds) (omega arith) (λ zs. go (suc at) (pushed (Item.Value (folded folding (is.shape).kind zs)) frame) state.turns)
+    (λ w. K (of_values w.0, w.1)) (λ zs. ap (λ z. go (suc at) (pushed (Item.Value z) frame) state.turns) (same is zs) ∙ ap (λ place. go place (pushed (Item.Value (of_values zs)) frame) state.turns) (plus-one at) ∙ later (of_values zs))
     ∙ sym (sequence-then (acts.for_each (acts.refer_to line) (map (outer_place_of variable) (range_with_len 0 (elements_in bounds))) state) (λ w. give (of_values w.0, w.1)) K)
     ∙ ap (λ c. sequence (sequence (sequence c (λ w. acts.for_each (acts.refer_to line) w.0 w.1)) (λ w. give (of_values w.0, w.1))) K) (sym (outer-places line variable sort bounds 0 (elements_in bounds) state))
 
@@ -122,19 +122,19 @@ slot-reads-law {B} line group slot state same from (suc many) k K later =
         ∙ deeper z
         ∙ sym (sequence-then (acts.for_each (acts.refer_to line) (map (slot_place_of (length state.frames - 1) group) (range_with_len (from + 1) many)) state) (λ v. give (z ∷ v.0, v.1)) K)
 
-pub fold-slot-law : (code : CodeLists) (line at : ℕ) (frame : Frame) (state : State) (folding : Folding) (of_values : List ℤ → ℤ) (group : ℕ) (sort : Sort) (bounds : Bounds)
+pub fold-slot-law : (code : CodeLists) (go : Going) (goes : GoesAs code go) (line at : ℕ) (frame : Frame) (state : State) (folding : Folding) (of_values : List ℤ → ℤ) (group : ℕ) (sort : Sort) (bounds : Bounds)
     → IsGroup code frame state group sort bounds → ((is : IsGroup code frame state group sort bounds) (zs : List ℤ) → folded folding (is.planned).kind zs ≡ of_values zs)
     → StandAt code line at (What.FoldSlot folding group ∷ [])
     → (K : ℤ × State → Computing (Frame × ℕ))
-    → ((z : ℤ) → machine code (at + 1) (pushed (Item.Value z) frame) state.turns ≡ K (z, state))
-    → machine code at frame state.turns ≡ sequence (sequence (whole_values line (slots group sort bounds) state) (λ w. give (of_values w.0, w.1))) K
-fold-slot-law code line at frame state folding of_values group sort bounds is same stand K later =
-    stepped at (What.FoldSlot folding group) [] frame state.turns stand
-    ∙ ap (λ found. behind (machine code) at state.turns (slot_folding_pushed line folding group found frame)) is.plan
-    ∙ ap (λ states. sequence (sequence (all_required line states) (λ zs. give (pushed (Item.Value (folded folding (is.planned).kind zs)) frame))) (λ left. machine code (suc at) left state.turns)) is.all
-    ∙ sequence-then (all_required line (map slot (range_with_len 0 (elements_in bounds)))) (λ zs. give (pushed (Item.Value (folded folding (is.planned).kind zs)) frame)) (λ left. machine code (suc at) left state.turns)
-    ∙ slot-reads-law line group slot state is.same 0 (elements_in bounds) (λ zs. machine code (suc at) (pushed (Item.Value (folded folding (is.planned).kind zs)) frame) state.turns)
-    (λ w. K (of_values w.0, w.1)) (λ zs. ap (λ z. machine code (suc at) (pushed (Item.Value z) frame) state.turns) (same is zs) ∙ ap (λ place. machine code place (pushed (Item.Value (of_values zs)) frame) state.turns) (plus-one at) ∙ later (of_values zs))
+    → ((z : ℤ) → go (at + 1) (pushed (Item.Value z) frame) state.turns ≡ K (z, state))
+    → go at frame state.turns ≡ sequence (sequence (whole_values line (slots group sort bounds) state) (λ w. give (of_values w.0, w.1))) K
+fold-slot-law code go goes line at frame state folding of_values group sort bounds is same stand K later =
+    stepped goes at (What.FoldSlot folding group) [] frame state.turns stand refl
+    ∙ ap (λ found. behind go at state.turns (slot_folding_pushed line folding group found frame)) is.plan
+    ∙ ap (λ states. sequence (sequence (all_required line states) (λ zs. give (pushed (Item.Value (folded folding (is.planned).kind zs)) frame))) (λ left. go (suc at) left state.turns)) is.all
+    ∙ sequence-then (all_required line (map slot (range_with_len 0 (elements_in bounds)))) (λ zs. give (pushed (Item.Value (folded folding (is.planned).kind zs)) frame)) (λ left. go (suc at) left state.turns)
+    ∙ slot-reads-law line group slot state is.same 0 (elements_in bounds) (λ zs. go (suc at) (pushed (Item.Value (folded folding (is.planned).kind zs)) frame) state.turns)
+    (λ w. K (of_values w.0, w.1)) (λ zs. ap (λ z. go (suc at) (pushed (Item.Value z) frame) state.turns) (same is zs) ∙ ap (λ place. go place (pushed (Item.Value (of_values zs)) frame) state.turns) (plus-one at) ∙ later (of_values zs))
     ∙ sym (sequence-then (acts.for_each (acts.refer_to line) (map (slot_place_of (length state.frames - 1) group) (range_with_len 0 (elements_in bounds))) state) (λ w. give (of_values w.0, w.1)) K)
     ∙ ap (λ c. sequence (sequence (sequence c (λ w. acts.for_each (acts.refer_to line) w.0 w.1)) (λ w. give (of_values w.0, w.1))) K) (sym (slot-places line group sort bounds 0 (elements_in bounds) state))
   where

@@ -13,7 +13,7 @@ use Rattle.dc_tree.specs.Entities.{Scope}
 use Rattle.dc_meaning.specs.Actions.{Flow, on}
 use Rattle.dc_meaning.specs.Acts.{State, Act}
 use Rattle.dc_lower.specs.Blocks.{InstrsStand}
-use Rattle.dc_lower.specs.Placed.{StandAt, HaveNames, HaveKept, IsLineless}
+use Rattle.dc_lower.specs.Placed.{StandAt, HaveNames, HaveKept, Alike, IsLineless}
 
 -- A run of the machine from a place is what is meant, and then what goes on behind the instructions, where the value
 -- is on top of the stack: the same accesses in the same order, and the same faults.
@@ -31,6 +31,15 @@ CarryOut code scope line whats meant =
     → (rest : Flow × State → Computing (Frame × ℕ))
     → machine code (at + length whats) frame state.turns ≡ rest (on, state)
     → machine code at frame state.turns ≡ sequence (meant state) rest
+
+-- The same of a statement that keeps values in groups that are added for it, and of the turns alone: the frame that it
+-- leaves may differ in these groups.
+abbrev pub CarryOutKeeping : CodeLists → Scope → (free : ℕ) → List Group → ℕ → List What → Act Flow → Type 0
+CarryOutKeeping code scope free groups line whats meant =
+    (at : ℕ) (frame : Frame) (state : State) → HaveNames code scope frame state → HaveKept code scope frame free groups → StandAt code line at whats
+    → (rest : Flow × State → Computing ℕ)
+    → ((left : Frame) → Alike free frame left → sequence (machine code (at + length whats) left state.turns) (λ w. give w.1) ≡ rest (on, state))
+    → sequence (machine code at frame state.turns) (λ w. give w.1) ≡ sequence (meant state) rest
 
 -- The state of a block inside these entities, with so many turns left.
 abbrev pub inside : Slots → ℕ → State

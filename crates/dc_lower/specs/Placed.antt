@@ -8,7 +8,7 @@ use Rattle.dc_int.specs.Store.{Bounds, elements_in}
 use Rattle.dc_code.specs.declared.instr.What.{What}
 use Rattle.dc_code.specs.declared.plan.Group.{Group}
 use Rattle.dc_code.specs.Codes.{CodeLists}
-use Rattle.dc_code.specs.Frames.{Frame, level, slot_of}
+use Rattle.dc_code.specs.Frames.{Frame, innermost, level, slot_of}
 use Rattle.dc_code.specs.Reaching.{group_planned, group_slots}
 use Rattle.dc_tree.specs.Entities.{outside, slots, constant, Scope, entity}
 use Rattle.dc_tree.specs.Statements.{Name}
@@ -47,6 +47,16 @@ pub record HaveKept (code : CodeLists) (scope : Scope) (frame : Frame) (free : �
   pub planned : (i : ℕ) (group : Group) → slice_get groups i ≡ Some group → group_planned code frame (free + i) ≡ Some group
   pub sized : (i : ℕ) (group : Group) → slice_get groups i ≡ Some group → length (group_slots frame (free + i)) ≡ elements_in group.bounds
   pub apart : (text : Name) (group : ℕ) (sort : Sort) (bounds : Bounds) → entity scope text ≡ slots group sort bounds → group < free
+
+-- What two frames have in common that differ in the slots of groups from a number on alone, of which the one has as
+-- many as the other.
+pub record Alike (free : ℕ) (one other : Frame) : Type 0 where
+  pub stack : other.stack ≡ one.stack
+  pub line : other.line ≡ one.line
+  pub begun : other.begun ≡ one.begun
+  pub plan : (innermost other).plan ≡ (innermost one).plan
+  pub slots : (group : ℕ) → group < free → slice_get (innermost other).slots group ≡ slice_get (innermost one).slots group
+  pub sizes : (group : ℕ) → length (group_slots other group) ≡ length (group_slots one group)
 
 -- A frame between two output lines.
 pub record IsLineless (frame : Frame) : Type 0 where
