@@ -104,6 +104,17 @@ slots-cells frame group = by (own_cells frame group) refl
     by (Some cells) e = rw e refl
     by None e = rw e refl
 
+-- A group that has slots is of a unit.
+pub unit-there : (frame : Frame) (group at : ℕ) → at < length (group_slots frame group) → (unit : UnitFrame) × (slice_get frame.units (level frame) ≡ Some unit)
+unit-there frame group at within = by (slice_get frame.units (level frame)) refl
+  where
+    none : length (group_slots frame group) ≡ 0 → ⊥
+    none e = omega (arith, e, within)
+
+    by : (found : Option UnitFrame) → slice_get frame.units (level frame) ≡ found → (unit : UnitFrame) × (slice_get frame.units (level frame) ≡ Some unit)
+    by (Some unit) e = (unit, e)
+    by None e = absurd (none (ap length (slots-cells frame group) ∙ rw e (ap (λ found. length (cells_of found)) (get-nothing group))))
+
 -- ---- frames that are alike
 
 pub same-alike : (free : ℕ) (frame : Frame) → Alike free frame frame
