@@ -1,15 +1,19 @@
 -- The instructions of a block carry it out, statement by statement.
-use Rattle.std.proofs.Common.{◌≡◌, ℕ, zero, suc, ◌+◌, Bool, true, List, [], ◌∷◌, ◌++◌, length, Some, refl, sym, ap, ◌∙◌, subst, arith}
+use Rattle.std.proofs.Common.{◌≡◌, ◌<◌, ℕ, zero, suc, ◌+◌, Bool, true, List, [], ◌∷◌, ◌++◌, length, Some, refl, sym, ap, ◌∙◌, subst, arith}
 use Rattle.std.proofs.lemmas.Bool.{false≢true}
 use Rattle.std.proofs.lemmas.Option.{none-some, same_Some}
 use Rattle.std.specs.Prelude.{min, slice_get}
 use Rattle.dc_code.specs.declared.instr.Instr.{Instr}
 use Rattle.dc_code.specs.declared.instr.What.{What}
+use Rattle.dc_code.specs.declared.plan.Group.{Group}
 use Rattle.dc_code.specs.Codes.{CodeLists}
+use Rattle.dc_code.specs.Machine.{machine}
+use Rattle.dc_code.specs.Reaching.{group_planned, group_slots}
+use Rattle.dc_int.specs.Store.{elements_in}
 use Rattle.dc_code.specs.Combinations.{natural}
 use Rattle.dc_code.specs.Computation.{give, pause, sequence}
+use Rattle.dc_code.specs.Instructions.{Going}
 use Rattle.dc_code.specs.Frames.{Frame}
-use Rattle.dc_code.specs.Machine.{machine}
 use Rattle.dc_code.specs.Troubles.{Computing, Slots, enter_loop}
 use Rattle.dc_code.proofs.Sequences.{sequence-then}
 use Rattle.dc_tree.specs.Blocks.{Line, Items, plain, branch, select, loop, none, and_then}
@@ -21,12 +25,16 @@ use Rattle.dc_meaning.specs.Acts as acts
 use Rattle.dc_meaning.specs.Acts.{State}
 use Rattle.dc_meaning.specs.Execution.{exec_all, behind_item, plain_line, is_concurrent, loops_in, loop_of}
 use Rattle.dc_meaning.specs.Values.{Callee}
-use Rattle.dc_lower.specs.Blocks.{lined, InstrsStand, deed_code, texts_of_deed, deed_is_lowered, says_code, texts_of_item, texts_of_block, block_code, says_is_lowered, block_is_lowered, part_code}
-use Rattle.dc_lower.specs.Placed.{StandAt, HaveNames, IsLineless}
+use Rattle.dc_lower.specs.Blocks.{lined, InstrsStand, deed_code, texts_of_deed, groups_of_deed, deed_is_lowered, says_code, texts_of_item, texts_of_block, groups_of_says, groups_of_block, block_code, says_is_lowered, block_is_lowered, part_code}
+use Rattle.dc_lower.specs.Carrying.{inside}
+use Rattle.dc_lower.specs.Placed.{StandAt, HaveNames, HaveKept, IsLineless, Alike}
 use Rattle.dc_lower.specs.Printing.{TextsStand}
 use Rattle.dc_lower.proofs.Assigning.{assignment-law}
+use Rattle.dc_lower.proofs.Filling.{filling-law}
+use Rattle.dc_lower.proofs.Kept.{same-alike, alike-names, alike-kept, alike-lineless}
 use Rattle.dc_lower.proofs.Operators.{both-true, plus-one, plus-none}
-use Rattle.dc_lower.proofs.Placing.{get-left, get-right, stepped}
+use Rattle.dc_lower.proofs.Going.{GoesAs, blank_frame, leaving_turns, leaving-goes, machine-step, turns_left}
+use Rattle.dc_lower.proofs.Placing.{get-left, get-right, stand-first, stepped}
 use Rattle.dc_lower.proofs.Printing.{texts-left, texts-right, printing-law}
 
 -- ---- where instructions stand
@@ -60,80 +68,84 @@ length-instrs (x ∷ first) second = ap suc (length-instrs first second) ∙ ome
 
 -- ---- statements
 
-deed-law : (code : CodeLists) (scope : Scope) (call : Callee) (line at next : ℕ) (frame : Frame) (state : State) (deed : Deed) → HaveNames code scope frame state → IsLineless frame
-    → TextsStand code next (texts_of_deed deed) → StandAt code line at (deed_code scope next deed) → deed_is_lowered scope deed ≡ true
-    → (K : Flow × State → Computing (Frame × ℕ))
-    → machine code (at + length (deed_code scope next deed)) frame state.turns ≡ K (on, state)
-    → machine code at frame state.turns ≡ sequence (actions.act scope call line deed state) K
-deed-law code scope called line at next frame state (assign target tree) names start there stand so K later =
-    assignment-law code scope called line at frame state target tree (entity scope target.name) refl names stand so K later
-deed-law code scope called line at next frame state (print written trees) names start there stand so K later =
-    printing-law code scope called line at next frame state trees names start there stand so K later
-deed-law code scope called line at next frame state (fill n t) names start there stand so K later = absurd (false≢true so)
-deed-law code scope called line at next frame state (call n b t) names start there stand so K later = absurd (false≢true so)
-deed-law code scope called line at next frame state (cycle l) names start there stand so K later = absurd (false≢true so)
-deed-law code scope called line at next frame state (exit l) names start there stand so K later = absurd (false≢true so)
-deed-law code scope called line at next frame state return names start there stand so K later = absurd (false≢true so)
-deed-law code scope called line at next frame state continue names start there stand so K later = absurd (false≢true so)
-deed-law code scope called line at next frame state stop names start there stand so K later = absurd (false≢true so)
-deed-law code scope called line at next frame state error_stop names start there stand so K later = absurd (false≢true so)
-deed-law code scope called line at next frame state (read b t) names start there stand so K later = absurd (false≢true so)
+-- What a statement needs of a frame, and leaves of it: the names, the groups that are added for it, and no output line.
+record Stands (code : CodeLists) (scope : Scope) (frame : Frame) (state : State) (free : ℕ) (groups : List Group) : Type 0 where
+  names : HaveNames code scope frame state
+  kept : HaveKept code scope frame free groups
+  start : IsLineless frame
 
-says-law : (code : CodeLists) (scope : Scope) (call : Callee) (at next : ℕ) (frame : Frame) (state : State) (line : Line) → HaveNames code scope frame state → IsLineless frame
-    → TextsStand code next (texts_of_item (plain line)) → StandAt code line.line at (says_code scope next line.says) → says_is_lowered scope line.says ≡ true
+deed-law : (code : CodeLists) (go : Going) (goes : GoesAs code go) (scope : Scope) (call : Callee) (line at next free : ℕ) (frame : Frame) (state : State) (deed : Deed)
+    → Stands code scope frame state free (groups_of_deed scope deed)
+    → TextsStand code next (texts_of_deed deed) → StandAt code line at (deed_code scope next free deed) → deed_is_lowered scope deed ≡ true
     → (K : Flow × State → Computing (Frame × ℕ))
-    → machine code (at + length (says_code scope next line.says)) frame state.turns ≡ K (on, state)
-    → machine code at frame state.turns ≡ sequence (plain_line scope call line state) K
-says-law code scope called at next frame state line names start there stand so K later = by line.says refl
+    → ((left : Frame) → Alike free frame left → go (at + length (deed_code scope next free deed)) left state.turns ≡ K (on, state))
+    → go at frame state.turns ≡ sequence (actions.act scope call line deed state) K
+deed-law code go goes scope called line at next free frame state (assign target tree) stands there stand so K later =
+    assignment-law code go goes scope called line at frame state target tree (entity scope target.name) refl stands.names stand so K (later frame (same-alike free frame))
+deed-law code go goes scope called line at next free frame state (print written trees) stands there stand so K later =
+    printing-law code go goes scope called line at next frame state trees stands.names stands.start there stand so K (later frame (same-alike free frame))
+deed-law code go goes scope called line at next free frame state (fill text trees) stands there stand so K later =
+    filling-law code go goes scope called line at free frame state text trees (entity scope text) refl stands.names stands.kept stand so K later
+deed-law code go goes scope called line at next free frame state (call n b t) stands there stand so K later = absurd (false≢true so)
+deed-law code go goes scope called line at next free frame state (cycle l) stands there stand so K later = absurd (false≢true so)
+deed-law code go goes scope called line at next free frame state (exit l) stands there stand so K later = absurd (false≢true so)
+deed-law code go goes scope called line at next free frame state return stands there stand so K later = absurd (false≢true so)
+deed-law code go goes scope called line at next free frame state continue stands there stand so K later = absurd (false≢true so)
+deed-law code go goes scope called line at next free frame state stop stands there stand so K later = absurd (false≢true so)
+deed-law code go goes scope called line at next free frame state error_stop stands there stand so K later = absurd (false≢true so)
+deed-law code go goes scope called line at next free frame state (read b t) stands there stand so K later = absurd (false≢true so)
+
+says-law : (code : CodeLists) (go : Going) (goes : GoesAs code go) (scope : Scope) (call : Callee) (at next free : ℕ) (frame : Frame) (state : State) (line : Line)
+    → Stands code scope frame state free (groups_of_says scope line.says)
+    → TextsStand code next (texts_of_item (plain line)) → StandAt code line.line at (says_code scope next free line.says) → says_is_lowered scope line.says ≡ true
+    → (K : Flow × State → Computing (Frame × ℕ))
+    → ((left : Frame) → Alike free frame left → go (at + length (says_code scope next free line.says)) left state.turns ≡ K (on, state))
+    → go at frame state.turns ≡ sequence (plain_line scope call line state) K
+says-law code go goes scope called at next free frame state line stands there stand so K later = all line.says stands there stand so later
   where
     Goal : Statement → Type 0
-    Goal says = TextsStand code next (texts_of_item (plain (record { line = line.line; says = says }))) → StandAt code line.line at (says_code scope next says) → says_is_lowered scope says ≡ true
-        → machine code (at + length (says_code scope next says)) frame state.turns ≡ K (on, state)
-        → machine code at frame state.turns ≡ sequence (plain_line scope called (record { line = line.line; says = says }) state) K
+    Goal says = Stands code scope frame state free (groups_of_says scope says)
+        → TextsStand code next (texts_of_item (plain (record { line = line.line; says = says }))) → StandAt code line.line at (says_code scope next free says) → says_is_lowered scope says ≡ true
+        → ((left : Frame) → Alike free frame left → go (at + length (says_code scope next free says)) left state.turns ≡ K (on, state))
+        → go at frame state.turns ≡ sequence (plain_line scope called (record { line = line.line; says = says }) state) K
 
     all : (says : Statement) → Goal says
-    all (act deed) there stand so later = deed-law code scope called line.line at next frame state deed names start there stand so K later
-    all (program_line n) there stand so later = absurd (false≢true so)
-    all (use_line f m o) there stand so later = absurd (false≢true so)
-    all implicit_none there stand so later = absurd (false≢true so)
-    all (declare f a c e) there stand so later = absurd (false≢true so)
-    all contains_line there stand so later = absurd (false≢true so)
-    all (procedure_line p f n b d r) there stand so later = absurd (false≢true so)
-    all (end_line u n) there stand so later = absurd (false≢true so)
-    all (if_then t) there stand so later = absurd (false≢true so)
-    all (else_if t) there stand so later = absurd (false≢true so)
-    all else_line there stand so later = absurd (false≢true so)
-    all end_if there stand so later = absurd (false≢true so)
-    all (if_action t d) there stand so later = absurd (false≢true so)
-    all (select_case t) there stand so later = absurd (false≢true so)
-    all (case r) there stand so later = absurd (false≢true so)
-    all case_default there stand so later = absurd (false≢true so)
-    all end_select there stand so later = absurd (false≢true so)
-    all (do_line l r) there stand so later = absurd (false≢true so)
-    all (do_while l t) there stand so later = absurd (false≢true so)
-    all (end_do l) there stand so later = absurd (false≢true so)
-    all (concurrent l s i m o) there stand so later = absurd (false≢true so)
-
-    by : (says : Statement) → line.says ≡ says → machine code at frame state.turns ≡ sequence (plain_line scope called line state) K
-    by says e = all line.says there stand so later
+    all (act deed) stands there stand so later = deed-law code go goes scope called line.line at next free frame state deed stands there stand so K later
+    all (program_line n) stands there stand so later = absurd (false≢true so)
+    all (use_line f m o) stands there stand so later = absurd (false≢true so)
+    all implicit_none stands there stand so later = absurd (false≢true so)
+    all (declare f a c e) stands there stand so later = absurd (false≢true so)
+    all contains_line stands there stand so later = absurd (false≢true so)
+    all (procedure_line p f n b d r) stands there stand so later = absurd (false≢true so)
+    all (end_line u n) stands there stand so later = absurd (false≢true so)
+    all (if_then t) stands there stand so later = absurd (false≢true so)
+    all (else_if t) stands there stand so later = absurd (false≢true so)
+    all else_line stands there stand so later = absurd (false≢true so)
+    all end_if stands there stand so later = absurd (false≢true so)
+    all (if_action t d) stands there stand so later = absurd (false≢true so)
+    all (select_case t) stands there stand so later = absurd (false≢true so)
+    all (case r) stands there stand so later = absurd (false≢true so)
+    all case_default stands there stand so later = absurd (false≢true so)
+    all end_select stands there stand so later = absurd (false≢true so)
+    all (do_line l r) stands there stand so later = absurd (false≢true so)
+    all (do_while l t) stands there stand so later = absurd (false≢true so)
+    all (end_do l) stands there stand so later = absurd (false≢true so)
+    all (concurrent l s i m o) stands there stand so later = absurd (false≢true so)
 
 -- ---- blocks inside these entities
 
-abbrev pub inside : Slots → ℕ → State
-inside own turns = record { frames = record { slots = own; dummies = [] } ∷ []; turns = turns }
-
-enter-law : (code : CodeLists) (scope : Scope) (called : Callee) (at number : ℕ) (frame : Frame) (own : Slots) (turns : ℕ) (head : Line) (body : acts.Act Flow) → own ≡ [] → is_concurrent head.says ≡ true
+enter-law : (code : CodeLists) (go : Going) (goes : GoesAs code go) (scope : Scope) (called : Callee) (at number : ℕ) (frame : Frame) (own : Slots) (turns : ℕ) (head : Line) (body : acts.Act Flow) → own ≡ [] → is_concurrent head.says ≡ true
     → StandAt code head.line at (What.Enter number ∷ [])
     → (K : Flow × State → Computing (Frame × ℕ))
-    → ((left : ℕ) → machine code (at + 1) frame left ≡ K (on, inside own left))
-    → machine code at frame turns ≡ sequence (loop_of scope called number head body (inside own turns)) K
-enter-law code scope called at number frame own turns head body alone so stand K later = by head.says so
+    → ((left : ℕ) → go (at + 1) frame left ≡ K (on, inside own left))
+    → go at frame turns ≡ sequence (loop_of scope called number head body (inside own turns)) K
+enter-law code go goes scope called at number frame own turns head body alone so stand K later = by head.says so
   where
-    by : (says : Statement) → is_concurrent says ≡ true → machine code at frame turns ≡ sequence (loop_of scope called number (record { line = head.line; says = says }) body (inside own turns)) K
+    by : (says : Statement) → is_concurrent says ≡ true → go at frame turns ≡ sequence (loop_of scope called number (record { line = head.line; says = says }) body (inside own turns)) K
     by (concurrent l s i m o) so =
-        stepped at (What.Enter number) [] frame turns stand
-        ∙ ap (λ slots. pause (enter_loop number turns slots) (λ told. machine code (suc at) frame (min (natural told) turns))) (sym alone)
-        ∙ (λ i. pause (enter_loop number turns own) (λ told. (ap (λ place. machine code place frame (min (natural told) turns)) (plus-one at) ∙ later (min (natural told) turns)) i))
+        stepped goes at (What.Enter number) [] frame turns stand refl
+        ∙ ap (λ slots. pause (enter_loop number turns slots) (λ told. go (suc at) frame (min (natural told) turns))) (sym alone)
+        ∙ (λ i. pause (enter_loop number turns own) (λ told. (ap (λ place. go place frame (min (natural told) turns)) (plus-one at) ∙ later (min (natural told) turns)) i))
     by (program_line n) so = absurd (false≢true so)
     by (use_line f m o) so = absurd (false≢true so)
     by implicit_none so = absurd (false≢true so)
@@ -155,54 +167,108 @@ enter-law code scope called at number frame own turns head body alone so stand K
     by (end_do l) so = absurd (false≢true so)
     by (act d) so = absurd (false≢true so)
 
-block-place : (at l m n : ℕ) → l ≡ m → at + l + n ≡ at + (m + n)
-block-place at l m n e = omega (arith, e)
+-- The groups of a part, of which the first are of its first statement.
+kept-left : {code : CodeLists} {scope : Scope} {frame : Frame} {free : ℕ} (first second : List Group) → HaveKept code scope frame free (first ++ second) → HaveKept code scope frame free first
+kept-left first second kept = record {
+  planned = λ i group e. kept.planned i group (get-left first second i group e);
+  sized = λ i group e. kept.sized i group (get-left first second i group e);
+  apart = kept.apart;
+}
+
+kept-right : {code : CodeLists} {scope : Scope} {frame : Frame} (free : ℕ) (first second : List Group) → HaveKept code scope frame free (first ++ second)
+    → HaveKept code scope frame (free + length first) second
+kept-right {code} {scope} {frame} free first second kept = record {
+  planned = λ i group e. subst (λ number. group_planned code frame number ≡ Some group) (behind i) (kept.planned (length first + i) group (get-right first second i ∙ e));
+  sized = λ i group e. subst (λ number. length (group_slots frame number) ≡ elements_in group.bounds) (behind i) (kept.sized (length first + i) group (get-right first second i ∙ e));
+  apart = λ text group sort bounds e. further group (kept.apart text group sort bounds e);
+}
+  where
+    behind : (i : ℕ) → free + (length first + i) ≡ free + length first + i
+    behind i = omega arith
+
+    further : (group : ℕ) → group < free → group < free + length first
+    further group below = omega (arith, below)
+
+-- What a block needs of a frame, however many turns are left.
+record StandsAlways (code : CodeLists) (scope : Scope) (frame : Frame) (own : Slots) (free : ℕ) (groups : List Group) : Type 0 where
+  names : (left : ℕ) → HaveNames code scope frame (inside own left)
+  kept : HaveKept code scope frame free groups
+  start : IsLineless frame
+
+stands-first : {code : CodeLists} {scope : Scope} {frame : Frame} {own : Slots} {free : ℕ} (turns : ℕ) (first second : List Group)
+    → StandsAlways code scope frame own free (first ++ second) → Stands code scope frame (inside own turns) free first
+stands-first turns first second stands = record { names = stands.names turns; kept = kept-left first second stands.kept; start = stands.start }
+
+-- Behind a statement the frame that it left serves as well.
+stands-rest : {code : CodeLists} {scope : Scope} {frame left : Frame} {own : Slots} (free : ℕ) (first second : List Group)
+    → Alike free frame left → StandsAlways code scope frame own free (first ++ second) → StandsAlways code scope left own (free + length first) second
+stands-rest free first second alike stands = record {
+  names = λ turns. alike-names alike stands.kept.apart (stands.names turns);
+  kept = alike-kept alike (kept-right free first second stands.kept);
+  start = alike-lineless alike stands.start;
+}
 
 -- A block from its first statement on. Where loops stand in it, nothing is around them.
-pub block-law : (code : CodeLists) (scope : Scope) (called : Callee) (at next number : ℕ) (frame : Frame) (own : Slots) (turns : ℕ) (loops : Bool) (block : Items)
-    → ((left : ℕ) → HaveNames code scope frame (inside own left)) → IsLineless frame
-    → TextsStand code next (texts_of_block block) → InstrsStand code at (block_code scope next number block) → block_is_lowered scope loops block ≡ true → (loops ≡ true → own ≡ [])
+block-law : (code : CodeLists) (go : Going) (goes : GoesAs code go) (scope : Scope) (called : Callee) (at next free number : ℕ) (frame : Frame) (own : Slots) (turns : ℕ) (loops : Bool) (block : Items)
+    → StandsAlways code scope frame own free (groups_of_block scope block)
+    → TextsStand code next (texts_of_block block) → InstrsStand code at (block_code scope next free number block) → block_is_lowered scope loops block ≡ true → (loops ≡ true → own ≡ [])
     → (K : Flow × State → Computing (Frame × ℕ))
-    → ((left : ℕ) → machine code (at + length (block_code scope next number block)) frame left ≡ K (on, inside own left))
-    → machine code at frame turns ≡ sequence (exec_all scope called number block (inside own turns)) K
-block-law code scope called at next number frame own turns loops none names start there stand so alone K later = ap (λ place. machine code place frame turns) (plus-none at) ∙ later turns
-block-law code scope called at next number frame own turns loops (and_then (plain line) rest) names start there stand so alone K later =
-    let first = lined line.line (says_code scope next line.says) in
-    let second = block_code scope (next + length (texts_of_item (plain line))) (number + 0) rest in
-    says-law code scope called at next frame (inside own turns) line (names turns) start (texts-left (texts_of_item (plain line)) (texts_of_block rest) there)
-    (lined-stand line.line (says_code scope next line.says) (instrs-left first second stand)) (both-true so).0
+    → ((behind : Frame) (left : ℕ) → go (at + length (block_code scope next free number block)) behind left ≡ K (on, inside own left))
+    → go at frame turns ≡ sequence (exec_all scope called number block (inside own turns)) K
+block-law code go goes scope called at next free number frame own turns loops none stands there stand so alone K later = ap (λ place. go place frame turns) (plus-none at) ∙ later frame turns
+block-law code go goes scope called at next free number frame own turns loops (and_then (plain line) rest) stands there stand so alone K later =
+    let first = lined line.line (says_code scope next free line.says) in
+    let groups = groups_of_says scope line.says in
+    let second = block_code scope (next + length (texts_of_item (plain line))) (free + length groups) (number + 0) rest in
+    says-law code go goes scope called at next free frame (inside own turns) line (stands-first turns groups (groups_of_block scope rest) stands)
+    (texts-left (texts_of_item (plain line)) (texts_of_block rest) there)
+    (lined-stand line.line (says_code scope next free line.says) (instrs-left first second stand)) (both-true so).0
     (λ w. sequence (behind_item (exec_all scope called (number + 0) rest) w.0 w.1) K)
-    (ap (λ n. machine code (at + n) frame turns) (sym (length-lined line.line (says_code scope next line.says)))
-    ∙ block-law code scope called (at + length first) (next + length (texts_of_item (plain line))) (number + 0) frame own turns loops rest names start
+    (λ left alike. ap (λ n. go (at + n) left turns) (sym (length-lined line.line (says_code scope next free line.says)))
+    ∙ block-law code go goes scope called (at + length first) (next + length (texts_of_item (plain line))) (free + length groups) (number + 0) left own turns loops rest
+    (stands-rest free groups (groups_of_block scope rest) alike stands)
     (texts-right next (texts_of_item (plain line)) (texts_of_block rest) there) (instrs-right at first second stand) (both-true so).1 alone K
-    (λ left. ap (λ place. machine code place frame left) (there-behind (length first) (length second) (length (first ++ second)) (length-instrs first second)) ∙ later left))
+    (λ behind left. ap (λ place. go place behind left) (there-behind (length first) (length second) (length (first ++ second)) (length-instrs first second)) ∙ later behind left))
     ∙ sym (sequence-then (plain_line scope called line (inside own turns)) (λ w. behind_item (exec_all scope called (number + 0) rest) w.0 w.1) K)
   where
     there-behind : (l m n : ℕ) → n ≡ l + m → at + l + m ≡ at + n
     there-behind l m n e = omega (arith, e)
-block-law code scope called at next number frame own turns loops (and_then (loop head body close) rest) names start there stand so alone K later =
+block-law code go goes scope called at next free number frame own turns loops (and_then (loop head body close) rest) stands there stand so alone K later =
     let first = lined head.line (What.Enter number ∷ []) in
-    let second = block_code scope (next + 0) (number + loops_in (loop head body close)) rest in
-    enter-law code scope called at number frame own turns head (exec_all scope called number body) (alone (both-true (both-true so).0).0) (both-true (both-true so).0).1
+    let second = block_code scope (next + 0) (free + 0) (number + loops_in (loop head body close)) rest in
+    enter-law code go goes scope called at number frame own turns head (exec_all scope called number body) (alone (both-true (both-true so).0).0) (both-true (both-true so).0).1
     (lined-stand head.line (What.Enter number ∷ []) (instrs-left first second stand))
     (λ w. sequence (behind_item (exec_all scope called (number + loops_in (loop head body close)) rest) w.0 w.1) K)
-    (λ left. block-law code scope called (at + length first) (next + 0) (number + loops_in (loop head body close)) frame own left loops rest names start
+    (λ left. block-law code go goes scope called (at + length first) (next + 0) (free + 0) (number + loops_in (loop head body close)) frame own left loops rest
+    (stands-rest free [] (groups_of_block scope rest) (same-alike free frame) stands)
     (texts-right next [] (texts_of_block rest) there) (instrs-right at first second stand) (both-true so).1 alone K
-    (λ left. ap (λ place. machine code place frame left) (there-behind (length second)) ∙ later left))
+    (λ behind left. ap (λ place. go place behind left) (there-behind (length second)) ∙ later behind left))
     ∙ sym (sequence-then (loop_of scope called number head (exec_all scope called number body) (inside own turns)) (λ w. behind_item (exec_all scope called (number + loops_in (loop head body close)) rest) w.0 w.1) K)
   where
     there-behind : (m : ℕ) → at + 1 + m ≡ at + suc m
     there-behind m = omega arith
-block-law code scope called at next number frame own turns loops (and_then (branch arms close) rest) names start there stand so alone K later = absurd (false≢true so)
-block-law code scope called at next number frame own turns loops (and_then (select head arms close) rest) names start there stand so alone K later = absurd (false≢true so)
+block-law code go goes scope called at next free number frame own turns loops (and_then (branch arms close) rest) stands there stand so alone K later = absurd (false≢true so)
+block-law code go goes scope called at next free number frame own turns loops (and_then (select head arms close) rest) stands there stand so alone K later = absurd (false≢true so)
 
 -- A part of the code that is a block: where it begins, the machine does what the block means, and gives the turns left.
-pub part-law : (code : CodeLists) (scope : Scope) (called : Callee) (at next number : ℕ) (frame : Frame) (own : Slots) (turns : ℕ) (loops : Bool) (block : Items) (line : ℕ)
-    → ((left : ℕ) → HaveNames code scope frame (inside own left)) → IsLineless frame
-    → TextsStand code next (texts_of_block block) → InstrsStand code at (part_code scope next number block line) → block_is_lowered scope loops block ≡ true → (loops ≡ true → own ≡ [])
-    → machine code at frame turns ≡ sequence (exec_all scope called number block (inside own turns)) (λ w. give (frame, (w.1).turns))
-part-law code scope called at next number frame own turns loops block line names start there stand so alone =
-    let whole = block_code scope next number block in
-    block-law code scope called at next number frame own turns loops block names start there (instrs-left whole (lined line (What.End ∷ [])) stand) so alone
-    (λ w. give (frame, (w.1).turns))
-    (λ left. stepped (at + length whole) What.End [] frame left (lined-stand line (What.End ∷ []) (instrs-right at whole (lined line (What.End ∷ [])) stand)))
+pub part-law : (code : CodeLists) (scope : Scope) (called : Callee) (at next free number : ℕ) (frame : Frame) (own : Slots) (turns : ℕ) (loops : Bool) (block : Items) (line : ℕ)
+    → ((left : ℕ) → HaveNames code scope frame (inside own left)) → HaveKept code scope frame free (groups_of_block scope block) → IsLineless frame
+    → TextsStand code next (texts_of_block block) → InstrsStand code at (part_code scope next free number block line) → block_is_lowered scope loops block ≡ true → (loops ≡ true → own ≡ [])
+    → sequence (machine code at frame turns) (λ w. give w.1) ≡ sequence (exec_all scope called number block (inside own turns)) (λ w. give (w.1).turns)
+part-law code scope called at next free number frame own turns loops block line names kept start there stand so alone =
+    sym (sequence-then (machine code at frame turns) turns_left (λ w. give w.1))
+    ∙ ap (λ c. sequence c (λ w. give w.1))
+    (block-law code (leaving_turns code) (leaving-goes code) scope called at next free number frame own turns loops block (record { names = names; kept = kept; start = start }) there
+    (instrs-left whole ending stand) so alone turns_behind
+    (λ behind left. ap (λ c. sequence c turns_left) (machine-step code (at + length whole) line What.End behind left
+    (stand-first (at + length whole) What.End [] (lined-stand line (What.End ∷ []) (instrs-right at whole ending stand))))))
+    ∙ sequence-then (exec_all scope called number block (inside own turns)) turns_behind (λ w. give w.1)
+  where
+    whole : List Instr
+    whole = block_code scope next free number block
+
+    ending : List Instr
+    ending = lined line (What.End ∷ [])
+
+    turns_behind : Flow × State → Computing (Frame × ℕ)
+    turns_behind w = turns_left (blank_frame, (w.1).turns)

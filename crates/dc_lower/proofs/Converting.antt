@@ -1,7 +1,7 @@
 -- Values as variables take them: a wrapped number is taken as the number itself.
-use Rattle.std.proofs.Common.{◌≡◌, ℕ, Bool, true, false, cond, List, [], ◌∷◌, ◌+◌, length, refl, sym, ap, ◌∙◌}
+use Rattle.std.proofs.Common.{◌≡◌, ℕ, Bool, true, false, cond, [], ◌∷◌, ◌+◌, length, refl, ap, ◌∙◌}
 use Rattle.std.proofs.lemmas.Int.{int_wrap_fits}
-use Rattle.std.specs.Prelude.{ℤ, pos, nat_lt}
+use Rattle.std.specs.Prelude.{ℤ, nat_lt}
 use Rattle.dc_int.specs.declared.kind.Kind.{Kind}
 use Rattle.dc_int.specs.Kinds.{bits_of, width, wrapped}
 use Rattle.dc_int.specs.Reductions.{truth, number_of_truth}
@@ -43,9 +43,11 @@ narrower-law : (code : CodeLists) (go : Going) (goes : GoesAs code go) (line at 
     → StandAt code line at (cond narrower (What.Wrap taken ∷ []) [])
     → (value : ℤ) × (fitted (whole taken) value ≡ fitted (whole taken) z)
     × (go at (pushed (Item.Value z) frame) turns ≡ go (at + length (cond narrower (What.Wrap taken ∷ []) [])) (pushed (Item.Value value) frame) turns)
-narrower-law code go goes line at frame turns taken z true stand =
-    (wrapped taken z, wrapped-twice taken z,
-    stepped goes at (What.Wrap taken) [] (pushed (Item.Value z) frame) turns stand refl ∙ ap (λ place. go place (pushed (Item.Value (wrapped taken z)) frame) turns) (plus-one at))
+narrower-law code go goes line at frame turns taken z true stand = (
+  wrapped taken z,
+  wrapped-twice taken z,
+  stepped goes at (What.Wrap taken) [] (pushed (Item.Value z) frame) turns stand refl ∙ ap (λ place. go place (pushed (Item.Value (wrapped taken z)) frame) turns) (plus-one at),
+)
 narrower-law code go goes line at frame turns taken z false stand = (z, refl, unchanged go at frame turns z)
 
 pub conversion-law : (code : CodeLists) (go : Going) (goes : GoesAs code go) (line at : ℕ) (frame : Frame) (turns : ℕ) (given taken : Sort) (z : ℤ)

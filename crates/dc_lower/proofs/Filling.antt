@@ -1,5 +1,5 @@
 -- The instructions of an assignment of a list keep each value in a slot, and then hand all on to the elements.
-use Rattle.std.proofs.Common.{◌≡◌, ◌<◌, ◌≤◌, ℕ, zero, suc, ◌+◌, true, ◌&&◌, List, [], ◌∷◌, ◌++◌, length, map, zip, Option, Some, None, refl, sym, ap, ◌∙◌, subst, arith}
+use Rattle.std.proofs.Common.{◌≡◌, ◌<◌, ◌≤◌, ℕ, suc, ◌+◌, true, ◌&&◌, List, [], ◌∷◌, ◌++◌, length, map, zip, Option, Some, refl, sym, ap, ◌∙◌, subst, arith}
 use Rattle.std.proofs.lemmas.Bool.{eqb-true, false≢true}
 use Rattle.std.specs.List.{range_with_len}
 use Rattle.std.specs.Prelude.{ℤ, pos}
@@ -9,11 +9,11 @@ use Rattle.dc_int.specs.Store.{Bounds, elements_in, position_in}
 use Rattle.dc_code.specs.declared.frame.Item.{Item}
 use Rattle.dc_code.specs.declared.frame.Place.{Place}
 use Rattle.dc_code.specs.declared.instr.What.{What}
-use Rattle.dc_code.specs.declared.plan.Group.{Group}
 use Rattle.dc_code.specs.Codes.{CodeLists, element}
 use Rattle.dc_code.specs.Computation.{give, define, sequence}
 use Rattle.dc_code.specs.Frames.{Frame, pushed, level, slot_of}
 use Rattle.dc_code.specs.Instructions.{Going, behind}
+use Rattle.dc_code.specs.Machine.{machine}
 use Rattle.dc_code.specs.Operands.{required, values_off}
 use Rattle.dc_code.specs.Reaching.{positioned, within_bounds, group_planned, group_bounds, group_slots, group_sort, slot_sort, fitted_to, defined_as}
 use Rattle.dc_code.specs.Troubles.{Computing}
@@ -33,9 +33,9 @@ use Rattle.dc_lower.specs.Placed.{StandAt, HaveNames, HaveKept, IsOutside, Alike
 use Rattle.dc_lower.specs.Subscripts.{subscripts_at}
 use Rattle.dc_lower.proofs.Converting.{Converts, fitted-twice, conversion-law}
 use Rattle.dc_lower.proofs.Expressions.{behind-two, value-law}
-use Rattle.dc_lower.proofs.Going.{GoesAs}
+use Rattle.dc_lower.proofs.Going.{GoesAs, blank_frame, leaving_turns, leaving-goes, turns_left}
 use Rattle.dc_lower.proofs.Kept.{Apart, put_slot, put-alike, put-there, put-before, same-alike, alike-then, alike-planned, alike-names, unit-there}
-use Rattle.dc_lower.proofs.Operators.{all_pushed, taken-all, element-there, both-true, plus-one, plus-none}
+use Rattle.dc_lower.proofs.Operators.{all_pushed, taken-all, element-there, both-true, plus-one, plus-none, sequence-give}
 use Rattle.dc_lower.proofs.Placing.{length-both, stand-left, stand-right, stand-rest, stepped}
 use Rattle.dc_lower.proofs.Subscripts.{leads_back, as_many_subscripts, counted_from_one, counted_elements}
 use Rattle.dc_lower.proofs.Wholes.{outer_place_of, outer-places}
@@ -374,3 +374,27 @@ filling-law code go goes scope call line at free frame state text trees (functio
 filling-law code go goes scope call line at free frame state text trees (subroutine procedure intents) e names kept_groups stand so K later = absurd (false≢true (both-true {a = all_usable scope trees} so).1)
 filling-law code go goes scope call line at free frame state text trees (reduction variable op sort bounds) e names kept_groups stand so K later = absurd (false≢true (both-true {a = all_usable scope trees} so).1)
 filling-law code go goes scope call line at free frame state text trees nothing e names kept_groups stand so K later = absurd (false≢true (both-true {a = all_usable scope trees} so).1)
+
+-- The law of a list in terms of the turns alone.
+pub list-law : (code : CodeLists) (scope : Scope) (called : Callee) (line at free : ℕ) (frame : Frame) (state : State) (text : Name) (trees : List Tree)
+    → HaveNames code scope frame state → HaveKept code scope frame free (kept_group (sort_of_entity (entity scope text)) (length trees) ∷ [])
+    → StandAt code line at (filling_code scope free trees (entity scope text)) → (all_usable scope trees && takes_list (entity scope text) (length trees)) ≡ true
+    → (K : Flow × State → Computing ℕ)
+    → ((left : Frame) → Alike free frame left → sequence (machine code (at + length (filling_code scope free trees (entity scope text))) left state.turns) (λ w. give w.1) ≡ K (on, state))
+    → sequence (machine code at frame state.turns) (λ w. give w.1) ≡ sequence (filling scope called line trees (entity scope text) state) K
+list-law code scope called line at free frame state text trees names kept stand so K later =
+    sym (sequence-then (machine code at frame state.turns) turns_left (λ w. give w.1))
+    ∙ ap (λ c. sequence c (λ w. give w.1))
+    (filling-law code (leaving_turns code) (leaving-goes code) scope called line at free frame state text trees (entity scope text) refl names kept stand so (λ w. sequence (K w) beside)
+    (λ left alike. sym (sequence-then (machine code there left state.turns) (λ w. give w.1) beside) ∙ ap (λ c. sequence c beside) (later left alike)))
+    ∙ sequence-then meant (λ w. sequence (K w) beside) (λ w. give w.1)
+    ∙ (λ i. sequence meant (λ w. (sequence-then (K w) beside (λ v. give v.1) ∙ sequence-give (K w)) i))
+  where
+    there : ℕ
+    there = at + length (filling_code scope free trees (entity scope text))
+
+    meant : Computing (Flow × State)
+    meant = filling scope called line trees (entity scope text) state
+
+    beside : ℕ → Computing (Frame × ℕ)
+    beside turns = turns_left (blank_frame, turns)

@@ -104,8 +104,11 @@ act-then code go left line What.Return at frame turns so = absurd (false≢true 
 act-then code go left line What.End at frame turns so = absurd (false≢true so)
 
 -- The turns that a run leaves, beside a frame that is always the same.
+abbrev pub blank_frame : Frame
+blank_frame = record { stack = []; units = []; line = []; begun = false }
+
 abbrev pub turns_left : Frame × ℕ → Computing (Frame × ℕ)
-turns_left w = give (record { stack = []; units = []; line = []; begun = false }, w.1)
+turns_left w = give (blank_frame, w.1)
 
 abbrev pub leaving_turns : CodeLists → Going
 leaving_turns code at frame turns = sequence (machine code at frame turns) turns_left

@@ -2,7 +2,7 @@
 use Rattle.std.proofs.Common.{◌≡◌, ◌<◌, ◌≤◌, ℕ, zero, suc, ◌+◌, ◌-◌, List, [], ◌∷◌, length, map, Option, Some, None, refl, sym, ap, ◌∙◌, arith}
 use Rattle.std.specs.List.{range_with_len}
 use Rattle.std.specs.Prelude.{ℤ, slice_get, slice_set, option_and_then}
-use Rattle.dc_int.specs.Sorts.{Sort, fitted}
+use Rattle.dc_int.specs.Sorts.{Sort}
 use Rattle.dc_int.specs.Store.{Bounds, elements_in, changed_at, number_in}
 use Rattle.dc_code.specs.declared.plan.Group.{Group}
 use Rattle.dc_code.specs.Codes.{CodeLists, plan_numbered}

@@ -1,8 +1,13 @@
 pub mod Assigning
 pub mod Blocks
+pub mod Converting
 pub mod Expressions
+pub mod Filling
+pub mod Going
+pub mod Kept
 pub mod LoweringExamples
 pub mod Operators
 pub mod Placing
 pub mod Printing
+pub mod Subscripts
 pub mod Wholes

@@ -1,5 +1,5 @@
 -- Small trees, and the instructions that they have.
-use Rattle.std.proofs.Common.{◌≡◌, [], ◌∷◌, false, Some, None, refl}
+use Rattle.std.proofs.Common.{◌≡◌, [], ◌∷◌, false, true, Some, None, refl}
 use Rattle.std.specs.Int.{int_wrap}
 use Rattle.std.specs.Prelude.{codes, pos}
 use Rattle.dc_int.specs.declared.kind.Kind.{Kind}
@@ -10,12 +10,12 @@ use Rattle.dc_code.specs.declared.instr.Relation.{Relation}
 use Rattle.dc_code.specs.declared.instr.What.{What}
 use Rattle.dc_tree.specs.declared.token.Mark.{Mark}
 use Rattle.dc_tree.specs.declared.token.Suffix.{Suffix}
-use Rattle.dc_tree.specs.Blocks.{plain, none, and_then}
+use Rattle.dc_tree.specs.Blocks.{Items, plain, none, and_then}
 use Rattle.dc_tree.specs.Entities.{Scope, outside, slots, constant}
-use Rattle.dc_tree.specs.Statements.{print, act}
+use Rattle.dc_tree.specs.Statements.{fill, print, act}
 use Rattle.dc_tree.specs.Syntax.{Tree, number, chars, name, refer, paren, unary, binary, no_args, arg}
-use Rattle.dc_lower.specs.Assigning.{assignment_code}
-use Rattle.dc_lower.specs.Blocks.{part_code}
+use Rattle.dc_lower.specs.Assigning.{assignment_code, filling_code}
+use Rattle.dc_lower.specs.Blocks.{groups_of_block, part_code}
 use Rattle.dc_lower.specs.Expressions.{value_code}
 use Rattle.dc_lower.specs.Printing.{printing_code}
 
@@ -75,6 +75,40 @@ printed : printing_code small 2 (chars (codes "x") ∷ name (codes "a") ∷ name
     ≡ What.PutChars 2 ∷ What.PutAll 0 ∷ What.Subscript 1 ∷ What.Load 1 ∷ What.PutNumber ∷ What.PutEnd ∷ []
 printed = refl
 
+-- a(i) = t: a number of kind 8 is wrapped to kind 4, before the subscripts
+narrowed : assignment_code small (record { name = codes "a"; subscripts = Some (name (codes "i") ∷ []) }) named
+    ≡ What.Subscript 1 ∷ What.Load 1 ∷ What.Wrap Kind.K4 ∷ What.SubscriptSlot 0 ∷ What.LoadSlot 0 ∷ What.Subscript 0 ∷ What.Store 0 ∷ []
+narrowed = refl
+
+-- t = a(i): a wider kind takes the number as it is
+widened : assignment_code small (record { name = codes "t"; subscripts = Some [] }) (refer (codes "a") (arg false (name (codes "i")) no_args))
+    ≡ What.SubscriptSlot 0 ∷ What.LoadSlot 0 ∷ What.Subscript 0 ∷ What.Load 0 ∷ What.Subscript 1 ∷ What.Store 1 ∷ []
+widened = refl
+
+-- popcnt(t), which has kind 4
+bits : value_code small (refer (codes "popcnt") (arg false named no_args)) ≡ What.Subscript 1 ∷ What.Load 1 ∷ What.Arith Op.Popcnt Kind.K8 ∷ What.Wrap Kind.K4 ∷ []
+bits = refl
+
+-- b = [1, t], where an array `b` of two elements begins at 3 and one group stands before: each value is kept in its
+-- slot, and then each element is defined
+listed : filling_code small 1 (one ∷ named ∷ []) (outside 3 (whole Kind.K4) ((pos 3, pos 4) ∷ []))
+    ≡ What.Const Kind.K4 (pos 1) ∷ What.Const Kind.K4 (pos 1) ∷ What.SubscriptSlot 1 ∷ What.StoreSlot 1
+    ∷ What.Subscript 1 ∷ What.Load 1 ∷ What.Wrap Kind.K4 ∷ What.Const Kind.K4 (pos 2) ∷ What.SubscriptSlot 1 ∷ What.StoreSlot 1
+    ∷ What.Const Kind.K4 (pos 1) ∷ What.SubscriptSlot 1 ∷ What.LoadSlot 1 ∷ What.Const Kind.K8 (pos 3) ∷ What.Subscript 3 ∷ What.Store 3
+    ∷ What.Const Kind.K4 (pos 2) ∷ What.SubscriptSlot 1 ∷ What.LoadSlot 1 ∷ What.Const Kind.K8 (pos 4) ∷ What.Subscript 3 ∷ What.Store 3 ∷ []
+listed = refl
+
 -- a block of one statement, on line 3, that ends on line 4
-part : part_code small 0 0 (and_then (plain (record { line = 3; says = act (print false []) })) none) 4 ≡ record { line = 3; what = What.PutEnd } ∷ record { line = 4; what = What.End } ∷ []
+part : part_code small 0 1 0 (and_then (plain (record { line = 3; says = act (print false []) })) none) 4 ≡ record { line = 3; what = What.PutEnd } ∷ record { line = 4; what = What.End } ∷ []
 part = refl
+
+-- a block that assigns two lists, of four numbers and of no truths, has a group for each
+lists : Items
+lists =
+    and_then (plain (record { line = 3; says = act (fill (codes "a") (one ∷ one ∷ one ∷ one ∷ [])) }))
+    (and_then (plain (record { line = 4; says = act (print false []) })) (and_then (plain (record { line = 5; says = act (fill (codes "q") []) })) none))
+
+added : groups_of_block small lists
+    ≡ record { kind = Kind.K4; logical = false; bounds = (pos 1, pos 4) ∷ [] } ∷ record { kind = Kind.K4; logical = true; bounds = (pos 1, pos 0) ∷ [] } ∷ []
+unfolding lists
+added = refl

@@ -1,17 +1,25 @@
 //! What the instructions of trees do.
 
-ghost use Rattle.std.specs.Prelude.{◌≡◌, ℕ, Bool, List, true};
+ghost use Rattle.std.specs.Prelude.{◌≡◌, ℕ, Bool, List, [], ◌∷◌, length, true};
 ghost use Rattle.dc_code.specs.Codes.{CodeLists};
 ghost use Rattle.dc_tree.specs.Blocks.{Items};
 ghost use Rattle.dc_tree.specs.Entities.{Scope, entity};
-ghost use Rattle.dc_tree.specs.Statements.{Target};
+ghost use Rattle.dc_tree.specs.Statements.{Name, Target};
 ghost use Rattle.dc_tree.specs.Syntax.{Tree};
-ghost use Rattle.dc_meaning.specs.Actions.{assignment, printing};
+ghost use Rattle.dc_tree.specs.Typing.{sort_of_entity};
+ghost use Rattle.dc_meaning.specs.Actions.{assignment, filling, printing};
 ghost use Rattle.dc_meaning.specs.Execution.{exec_all};
 ghost use Rattle.dc_meaning.specs.Values.{Callee, value};
-ghost use Rattle.dc_lower.specs.Assigning.{assignment_code, takes_values};
-ghost use Rattle.dc_lower.specs.Blocks.{part_code, block_is_lowered, texts_of_block};
-ghost use Rattle.dc_lower.specs.Carrying.{LeaveValue, CarryOut, RunPart};
+ghost use Rattle.dc_lower.specs.Assigning.{
+  assignment_code,
+  filling_code,
+  kept_group,
+  all_usable,
+  takes_values,
+  takes_list,
+};
+ghost use Rattle.dc_lower.specs.Blocks.{part_code, block_is_lowered, texts_of_block, groups_of_block};
+ghost use Rattle.dc_lower.specs.Carrying.{LeaveValue, CarryOut, CarryOutKeeping, RunPart};
 ghost use Rattle.dc_lower.specs.Expressions.{value_code, is_usable};
 ghost use Rattle.dc_lower.specs.Printing.{printing_code, texts_of_items, TextsStand, give_items};
 
@@ -33,6 +41,18 @@ pub fn instructions_of_an_assignment_carry_it_out()
         (assignment scope call line target tree (entity scope target.name)) }
 {}
 
+/// The instructions of `a = [list]` carry it out: all values, and then each element is defined in order.
+/// The values are kept in the slots of a group that is added for the statement.
+pub fn instructions_of_a_list_carry_it_out()
+    ensures { (code : CodeLists) (scope : Scope) (call : Callee) (line free : ℕ)
+        → (text : Name) (trees : List Tree)
+        → all_usable scope trees ≡ true → takes_list (entity scope text) (length trees) ≡ true
+        → CarryOutKeeping code scope free
+        (kept_group (sort_of_entity (entity scope text)) (length trees) ∷ []) line
+        (filling_code scope free trees (entity scope text))
+        (filling scope call line trees (entity scope text)) }
+{}
+
 /// The instructions of PRINT and WRITE carry it out: all items are evaluated, and then the line is written.
 /// The literals stand among the texts of the code from a number on.
 pub fn instructions_of_output_carry_it_out()
@@ -41,10 +61,13 @@ pub fn instructions_of_output_carry_it_out()
         → CarryOut code scope line (printing_code scope next items) (printing scope call line items) }
 {}
 
-/// The instructions of a part that is a block carry it out, and End leaves the turns: of assignments and
-/// output, and of the loops of a main program, which are entered by their numbers from one on.
+/// The instructions of a part that is a block carry it out, and End leaves the turns: of assignments,
+/// lists and output, and of the loops of a main program, which are entered by their numbers from one on.
+/// The groups that are added for its lists follow from a number on.
 pub fn instructions_of_a_block_carry_it_out()
-    ensures { (code : CodeLists) (scope : Scope) (call : Callee) (next number line : ℕ) (loops : Bool) (block : Items)
+    ensures { (code : CodeLists) (scope : Scope) (call : Callee) (next free number line : ℕ)
+        → (loops : Bool) (block : Items)
         → block_is_lowered scope loops block ≡ true → TextsStand code next (texts_of_block block)
-        → RunPart code scope loops (part_code scope next number block line) (exec_all scope call number block) }
+        → RunPart code scope loops free (groups_of_block scope block)
+        (part_code scope next free number block line) (exec_all scope call number block) }
 {}

@@ -5,6 +5,7 @@
 mod law;
 
 pub use law::{
-    instructions_of_a_block_carry_it_out, instructions_of_an_assignment_carry_it_out,
-    instructions_of_an_expression_leave_its_value, instructions_of_output_carry_it_out,
+    instructions_of_a_block_carry_it_out, instructions_of_a_list_carry_it_out,
+    instructions_of_an_assignment_carry_it_out, instructions_of_an_expression_leave_its_value,
+    instructions_of_output_carry_it_out,
 };
