@@ -18,31 +18,37 @@ ghost use Rattle.dc_lower.specs.Assigning.{
   takes_values,
   takes_list,
 };
-ghost use Rattle.dc_lower.specs.Blocks.{part_code, block_is_lowered, texts_of_block, groups_of_block};
+ghost use Rattle.dc_lower.specs.Blocks.{
+  part_code,
+  block_is_lowered,
+  texts_of_block,
+  groups_of_block,
+};
 ghost use Rattle.dc_lower.specs.Carrying.{LeaveValue, CarryOut, CarryOutKeeping, RunPart};
 ghost use Rattle.dc_lower.specs.Expressions.{value_code, is_usable};
 ghost use Rattle.dc_lower.specs.Printing.{printing_code, texts_of_items, TextsStand, give_items};
 
-/// The instructions of an expression leave its value. Its names and functions are used as the rules of names
-/// and types leave them.
+/// The instructions of an expression leave its value. Its names and functions are used as the rules of
+/// names and types leave them.
 pub fn instructions_of_an_expression_leave_its_value()
     ensures { (code : CodeLists) (scope : Scope) (call : Callee) (line : ℕ) (tree : Tree)
         → is_usable scope tree ≡ true
         → LeaveValue code scope line (value_code scope tree) (value scope call line tree) }
 {}
 
-/// The instructions of an assignment to a variable of the main program carry it out: the value, then the
-/// subscripts, and then each element is defined.
+/// The instructions of an assignment to a variable of the main program carry it out: the value, then
+/// the subscripts, and then each element is defined.
 pub fn instructions_of_an_assignment_carry_it_out()
-    ensures { (code : CodeLists) (scope : Scope) (call : Callee) (line : ℕ) (target : Target) (tree : Tree)
+    ensures { (code : CodeLists) (scope : Scope) (call : Callee) (line : ℕ)
+        → (target : Target) (tree : Tree)
         → is_usable scope tree ≡ true
         → takes_values scope (entity scope target.name) target.subscripts ≡ true
         → CarryOut code scope line (assignment_code scope target tree)
         (assignment scope call line target tree (entity scope target.name)) }
 {}
 
-/// The instructions of `a = [list]` carry it out: all values, and then each element is defined in order.
-/// The values are kept in the slots of a group that is added for the statement.
+/// The instructions of `a = [list]` carry it out: all values, and then each element is defined in
+/// order. The values are kept in the slots of a group that is added for the statement.
 pub fn instructions_of_a_list_carry_it_out()
     ensures { (code : CodeLists) (scope : Scope) (call : Callee) (line free : ℕ)
         → (text : Name) (trees : List Tree)
@@ -53,17 +59,18 @@ pub fn instructions_of_a_list_carry_it_out()
         (filling scope call line trees (entity scope text)) }
 {}
 
-/// The instructions of PRINT and WRITE carry it out: all items are evaluated, and then the line is written.
-/// The literals stand among the texts of the code from a number on.
+/// The instructions of PRINT and WRITE carry it out: all items are evaluated, and then the line is
+/// written. The literals stand among the texts of the code from a number on.
 pub fn instructions_of_output_carry_it_out()
     ensures { (code : CodeLists) (scope : Scope) (call : Callee) (line next : ℕ) (items : List Tree)
         → give_items scope items ≡ true → TextsStand code next (texts_of_items items)
-        → CarryOut code scope line (printing_code scope next items) (printing scope call line items) }
+        → CarryOut code scope line (printing_code scope next items)
+        (printing scope call line items) }
 {}
 
 /// The instructions of a part that is a block carry it out, and End leaves the turns: of assignments,
-/// lists and output, and of the loops of a main program, which are entered by their numbers from one on.
-/// The groups that are added for its lists follow from a number on.
+/// lists and output, and of the loops of a main program, which are entered by their numbers from one
+/// on. The groups that are added for its lists follow from a number on.
 pub fn instructions_of_a_block_carry_it_out()
     ensures { (code : CodeLists) (scope : Scope) (call : Callee) (next free number line : ℕ)
         → (loops : Bool) (block : Items)
