@@ -28,16 +28,16 @@ ghost use Rattle.dc_lower.specs.Carrying.{LeaveValue, CarryOut, CarryOutKeeping,
 ghost use Rattle.dc_lower.specs.Expressions.{value_code, is_usable};
 ghost use Rattle.dc_lower.specs.Printing.{printing_code, texts_of_items, TextsStand, give_items};
 
-/// The instructions of an expression leave its value. Its names and functions are used as the rules of
-/// names and types leave them.
+/// The instructions of an expression leave its value. Its names and functions are used as the rules
+/// of names and types leave them.
 pub fn instructions_of_an_expression_leave_its_value()
     ensures { (code : CodeLists) (scope : Scope) (call : Callee) (line : ℕ) (tree : Tree)
         → is_usable scope tree ≡ true
         → LeaveValue code scope line (value_code scope tree) (value scope call line tree) }
 {}
 
-/// The instructions of an assignment to a variable of the main program carry it out: the value, then
-/// the subscripts, and then each element is defined.
+/// The instructions of an assignment to a variable of the main program carry it out: the value,
+/// then the subscripts, and then each element is defined.
 pub fn instructions_of_an_assignment_carry_it_out()
     ensures { (code : CodeLists) (scope : Scope) (call : Callee) (line : ℕ)
         → (target : Target) (tree : Tree)
@@ -68,9 +68,9 @@ pub fn instructions_of_output_carry_it_out()
         (printing scope call line items) }
 {}
 
-/// The instructions of a part that is a block carry it out, and End leaves the turns: of assignments,
-/// lists and output, and of the loops of a main program, which are entered by their numbers from one
-/// on. The groups that are added for its lists follow from a number on.
+/// The instructions of a part that is a block carry it out, and End leaves the turns: of
+/// assignments, lists and output, and of the loops of a main program, which are entered by their
+/// numbers from one on. The groups that are added for its lists follow from a number on.
 pub fn instructions_of_a_block_carry_it_out()
     ensures { (code : CodeLists) (scope : Scope) (call : Callee) (next free number line : ℕ)
         → (loops : Bool) (block : Items)
