@@ -1,0 +1,12 @@
+//! The listing of a code as text, and the law that a listing determines its code.
+#![tactic(auto)]
+
+mod instruction;
+mod listed;
+
+mod names;
+mod parts;
+mod whole;
+mod words;
+
+pub use whole::listing;
