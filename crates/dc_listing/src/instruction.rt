@@ -4,7 +4,9 @@ ghost use Rattle.std.specs.Prelude.{◌≡◌, ◌++◌, OnOk};
 ghost use Rattle.dc_listing.specs.Instructions.{name, operands};
 ghost use Rattle.dc_listing.specs.Words.{fields};
 
-use crate::names::{folding_word, kind_word, operation_word, reduction_word, relation_word, truth_word};
+use crate::names::{
+    folding_word, kind_word, operation_word, reduction_word, relation_word, truth_word,
+};
 use crate::words::{put_number, put_signed, put_word};
 use dc_code::What;
 use dc_text::{DcText, NoMemory};

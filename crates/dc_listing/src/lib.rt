@@ -3,7 +3,6 @@
 
 mod instruction;
 mod listed;
-
 mod names;
 mod parts;
 mod whole;

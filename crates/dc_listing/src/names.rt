@@ -105,4 +105,3 @@ pub(crate) fn passing_word(passing: Passing) -> &'static [u8]
         Passing::OutPlace => b"OutPlace",
     }
 }
-
