@@ -1,3 +1,9 @@
 pub mod Fields
+pub mod Lines
+pub mod NamesBack
 pub mod Numbers
+pub mod PartsTell
+pub mod Plain
 pub mod Sections
+pub mod Whats
+pub mod WholeTells

@@ -2,10 +2,12 @@
 #![tactic(auto)]
 
 mod instruction;
+mod law;
 mod listed;
 mod names;
 mod parts;
 mod whole;
 mod words;
 
+pub use law::a_listing_determines_its_code;
 pub use whole::listing;
