@@ -9,7 +9,6 @@ use Rattle.dc_code.specs.declared.instr.Instr.{Instr}
 use Rattle.dc_code.specs.declared.instr.Folding.{Folding}
 use Rattle.dc_code.specs.declared.instr.Relation.{Relation}
 use Rattle.dc_code.specs.declared.instr.What.{What}
-use Rattle.dc_code.specs.declared.plan.ConstructCode.{ConstructCode}
 use Rattle.dc_code.specs.declared.plan.Passing.{Passing}
 use Rattle.dc_code.specs.Codes.{CodeLists}
 use Rattle.dc_listing.specs.Listing.{instruction_line, told_line, text_words, shape_words, bounds_words, plan_words, entry_words, construct_words, listing}

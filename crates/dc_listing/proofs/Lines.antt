@@ -1,7 +1,6 @@
 -- A line tells its words.
-use Rattle.std.proofs.Common.{◌≡◌, ℕ, Bool, true, false, ◌&&◌, not, List, [], ◌∷◌, ◌++◌, length, flat_map, refl, sym, ap, ap₂, ◌∙◌, append_assoc, arith}
-use Rattle.std.proofs.lemmas.Bool.{and_parts, not-true}
-use Rattle.std.specs.List.{list_all}
+use Rattle.std.proofs.Common.{◌≡◌, ℕ, Bool, true, false, not, List, [], ◌∷◌, ◌++◌, flat_map, refl, sym, ap, ◌∙◌, append_assoc, arith}
+use Rattle.std.proofs.lemmas.Bool.{and_parts}
 use Rattle.dc_listing.specs.Words.{Word, field, fields, line}
 use Rattle.dc_listing.proofs.Plain.{is_mark, is_plain, are_plain, opens}
 
@@ -9,6 +8,7 @@ use Rattle.dc_listing.proofs.Plain.{is_mark, is_plain, are_plain, opens}
 abbrev pub is_gap : ℕ → Bool
 is_gap byte = not (is_mark byte)
 
+-- no byte is both
 never : {A : Type 0} (b : Bool) → b ≡ true → not b ≡ true → A
 never true holds fails = absurd (cc)
 never false holds fails = absurd (cc)

@@ -1,8 +1,8 @@
 -- Numbers as the library writes them.
-use Rattle.std.proofs.Common.{◌≡◌, ℕ, zero, suc, ◌+◌, ◌^◌, ◌<◌, List, ◌∷◌, map, refl, sym, ap, ◌∙◌, arith, decimal}
+use Rattle.std.proofs.Common.{◌≡◌, ℕ, zero, suc, ◌^◌, ◌<◌, List, ◌∷◌, sym, ap, arith, decimal}
 use Rattle.std.proofs.lemmas.Fmt.{decimal_digit, decimal-digits_of}
-use Rattle.std.specs.Prelude.{ℤ, pos, negsuc}
-use Rattle.std.specs.Fmt.{signed_decimal, digits}
+use Rattle.std.specs.Prelude.{pos, negsuc}
+use Rattle.std.specs.Fmt.{signed_decimal}
 use Rattle.dc_listing.specs.Words.{number, signed}
 
 pub number-decimal : (n : ℕ) → n < 2 ^ 64 → number n ≡ decimal n

@@ -1,21 +1,19 @@
 -- The words of each part of a code are plain, and tell the part.
-use Rattle.std.proofs.Common.{◌≡◌, ℕ, zero, suc, Bool, true, ◌&&◌, List, [], ◌∷◌, ◌++◌, flat_map, length, Option, Some, None, refl, sym, ap, ap₂, ◌∙◌, append_assoc, append-nil, arith}
+use Rattle.std.proofs.Common.{◌≡◌, ℕ, Bool, true, ◌&&◌, List, [], ◌∷◌, ◌++◌, flat_map, length, Option, Some, None, refl, sym, ap, ◌∙◌, append_assoc, arith}
 use Rattle.std.specs.Prelude.{ℤ, codes, if◌then◌else◌, option_map}
 use Rattle.std.specs.Str.{bytes_eq}
 use Rattle.std.proofs.lemmas.Option.{same_Some}
 use Rattle.dc_int.specs.declared.kind.Kind.{Kind}
-use Rattle.dc_int.specs.declared.operation.ReduceOp.{ReduceOp}
 use Rattle.dc_int.specs.declared.variable.Locality.{Locality}
 use Rattle.dc_int.specs.declared.variable.Shape.{Shape}
 use Rattle.dc_code.specs.declared.instr.Instr.{Instr}
-use Rattle.dc_code.specs.declared.instr.What.{What}
 use Rattle.dc_code.specs.declared.plan.ConstructCode.{ConstructCode}
 use Rattle.dc_code.specs.declared.plan.DummyPlan.{DummyPlan}
 use Rattle.dc_code.specs.declared.plan.Group.{Group}
 use Rattle.dc_code.specs.declared.plan.Plan.{Plan}
 use Rattle.dc_listing.specs.Instructions.{name, operands}
 use Rattle.dc_listing.specs.Listing.{instruction_words, shape_words, dimension_words, bounds_words, dummy_words, group_words, plan_words, entry_words, index_words, header_words, parts_words, construct_words}
-use Rattle.dc_listing.specs.Words.{Word, number, signed, number_or_none, list_words, truth_word, kind_word, reduction_word, passing_word, locality_words}
+use Rattle.dc_listing.specs.Words.{Word, number, signed, number_or_none, list_words, truth_word, kind_word, passing_word, locality_words}
 use Rattle.dc_listing.proofs.NamesBack.{tells-one, truth_in, kind_in, reduction_in, passing_in, truth-told, kind-told, reduction-told, passing-told}
 use Rattle.dc_listing.proofs.Plain.{is_plain, are_plain, is_digit, opens, number-opens, number_in, signed_in, number-back, signed-back, number-plain, signed-plain, both-plain, list-plain}
 use Rattle.dc_listing.proofs.Whats.{what_in, what-told}

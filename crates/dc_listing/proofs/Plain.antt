@@ -1,14 +1,14 @@
 -- Words without blanks and line feeds, and the words of numbers.
-use Rattle.std.proofs.Common.{◌≡◌, ℕ, zero, suc, ◌+◌, ◌-◌, ◌<◌, Bool, true, false, ◌&&◌, List, [], ◌∷◌, ◌++◌, map, flat_map, length, refl, sym, ap, ◌∙◌, arith}
+use Rattle.std.proofs.Common.{◌≡◌, ℕ, zero, suc, ◌+◌, ◌-◌, ◌<◌, Bool, true, false, ◌&&◌, List, [], ◌∷◌, ◌++◌, map, flat_map, length, refl, ap, ◌∙◌, arith}
 use Rattle.std.proofs.lemmas.Bool.{lt-ltb, le-ltb}
 use Rattle.std.proofs.lemmas.List.Folds.{list_all-append}
 use Rattle.std.proofs.lemmas.Int.Digits.{number_digits_of, all_below_base_digits_of}
-use Rattle.std.specs.Prelude.{ℤ, pos, negsuc, nat_lt, if◌then◌else◌, ◌==◌}
+use Rattle.std.specs.Prelude.{ℤ, pos, negsuc, nat_lt, if◌then◌else◌}
 use Rattle.std.specs.Int.Digits.{digits_of, number_from_digits, AllBelowBase}
 use Rattle.std.specs.List.{list_all}
 use Rattle.dc_listing.specs.Words.{Word, number, signed, list_words}
 
--- No byte is a blank or a line feed, or another below them.
+-- A byte above the blank, so neither a blank nor a line feed.
 abbrev pub is_mark : ℕ → Bool
 is_mark byte = nat_lt 32 byte
 
@@ -23,11 +23,12 @@ are_plain words = list_all is_plain words
 abbrev pub is_digit : ℕ → Bool
 is_digit byte = nat_lt 47 byte && nat_lt byte 58
 
--- The first byte passes a test.
+-- There is a first byte, and it passes a test.
 abbrev pub opens : (ℕ → Bool) → List ℕ → Bool
 opens test [] = false
 opens test (byte ∷ left) = test byte
 
+-- the byte of a digit
 abbrev glyph : ℕ → ℕ
 glyph digit = 48 + digit
 
@@ -64,6 +65,7 @@ number-opens (suc n) r = glyphs-open (digits_of 10 (suc n)) r (digits-some n) (a
 
 -- ---- numbers are read back
 
+-- the digit of a byte
 abbrev value : ℕ → ℕ
 value byte = byte - 48
 
@@ -79,6 +81,7 @@ unfolding number
 number-back zero = refl
 number-back (suc n) = ap (number_from_digits 10) (glyphs-back (digits_of 10 (suc n))) ∙ number_digits_of 10 (suc n) (omega arith)
 
+-- `-` is the only byte below the digits that a number begins with.
 abbrev pub signed_in : Word → ℤ
 signed_in [] = pos 0
 signed_in (byte ∷ word) = if nat_lt byte 48 then negsuc (number_in word - 1) else pos (number_in (byte ∷ word))

@@ -1,12 +1,9 @@
 -- An instruction is read back from its name and operands.
-use Rattle.std.proofs.Common.{◌≡◌, ℕ, Bool, true, false, ◌&&◌, List, [], ◌∷◌, refl, sym, ap, ap₂, ◌∙◌}
-use Rattle.std.specs.Prelude.{Option, Some, None, if◌then◌else◌, option_map, ℤ, codes}
+use Rattle.std.proofs.Common.{◌≡◌, ℕ, true, ◌&&◌, List, [], ◌∷◌, refl, ap, ap₂, ◌∙◌}
+use Rattle.std.specs.Prelude.{Option, Some, None, if◌then◌else◌, option_map, codes}
 use Rattle.std.specs.Str.{bytes_eq}
 use Rattle.dc_int.specs.declared.kind.Kind.{Kind}
 use Rattle.dc_int.specs.declared.operation.Op.{Op}
-use Rattle.dc_int.specs.declared.operation.ReduceOp.{ReduceOp}
-use Rattle.dc_code.specs.declared.instr.Folding.{Folding}
-use Rattle.dc_code.specs.declared.instr.Relation.{Relation}
 use Rattle.dc_code.specs.declared.instr.What.{What}
 use Rattle.dc_listing.specs.Instructions.{name, operands}
 use Rattle.dc_listing.specs.Words.{Word, number, signed, truth_word, kind_word, operation_word, reduction_word, relation_word, folding_word}

@@ -1,11 +1,11 @@
 -- A listing tells its code.
-use Rattle.std.proofs.Common.{◌≡◌, ℕ, suc, Bool, true, false, ◌&&◌, List, [], ◌∷◌, ◌++◌, length, drop, refl, sym, ap, ap₂, ◌∙◌, append_assoc, append-nil, arith}
+use Rattle.std.proofs.Common.{◌≡◌, ℕ, suc, Bool, true, false, ◌&&◌, List, [], ◌∷◌, ◌++◌, length, drop, refl, sym, ap, ◌∙◌, append_assoc, append-nil, arith}
 use Rattle.std.specs.Prelude.{codes, ◌==◌}
 use Rattle.dc_code.specs.declared.instr.Instr.{Instr}
 use Rattle.dc_code.specs.Codes.{CodeLists}
 use Rattle.dc_listing.specs.Listing.{section, instruction_line, told_line, instruction_words, text_words, shape_words, bounds_words, plan_words, entry_words, construct_words, listing}
-use Rattle.dc_listing.specs.Words.{Word, fields, line, number}
-use Rattle.dc_listing.proofs.Lines.{is_gap, field-tells, fields-more, fields-none, fields-open, line-is, line-tells, word-tells}
+use Rattle.dc_listing.specs.Words.{Word, fields, number}
+use Rattle.dc_listing.proofs.Lines.{field-tells, fields-more, fields-none, line-is, line-tells}
 use Rattle.dc_listing.proofs.PartsTell.{Tells, tells-whole, number-same, shape-tells, bounds-tell, plan-tells, entry-tells, construct-tells, instruction-plain, instruction-same}
 use Rattle.dc_listing.proofs.Plain.{is_plain, are_plain, is_digit, opens, number-opens, number-plain}
 
@@ -16,6 +16,7 @@ pub record AreLines {A : Type 0} (test : ℕ → Bool) (made : ℕ → A → Lis
   pub begin : (k : ℕ) (x : A) (r : List ℕ) → opens test (made k x ++ r) ≡ true
   pub tell : (k : ℕ) (x y : A) (r s : List ℕ) → made k x ++ r ≡ made k y ++ s → (x ≡ y) × (r ≡ s)
 
+-- no test has both answers
 both_ways : {A : Type 0} (b : Bool) → b ≡ true → b ≡ false → A
 both_ways b holds fails = let one : true ≡ false = sym holds ∙ fails in absurd (cc)
 
@@ -118,6 +119,7 @@ from_texts code = section (told_line (codes "text") text_words) 0 code.texts ++ 
 abbrev from_instructions : CodeLists → List ℕ
 from_instructions code = section instruction_line 0 code.instructions ++ from_texts code
 
+-- lists that are put together from the front, and from the end
 seven
     : (a b c d e f g : List ℕ) → ((((((a ++ b) ++ c) ++ d) ++ e) ++ f) ++ g) ≡ a ++ (b ++ (c ++ (d ++ (e ++ (f ++ (g ++ []))))))
 seven a b c d e f g =
@@ -138,6 +140,7 @@ listing-is code =
     (section (told_line (codes "entry") entry_words) 0 code.entries)
     (section (told_line (codes "construct") construct_words) 0 code.constructs)
 
+-- A test that the first letters of the words from a section on don't pass.
 module _ (test : ℕ → Bool) (code : CodeLists) where
   no-constructs : test 99 ≡ false → opens test (from_constructs code) ≡ false
   no-constructs c = other-lines test (told_line (codes "construct") construct_words) (λ k x r. c) 0 code.constructs [] refl

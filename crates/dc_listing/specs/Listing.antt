@@ -1,7 +1,7 @@
 -- A code as text. Its instructions come first, a line each: the place, the line of the source, the name and the
 -- operands. Then there is a line for each text, shape, list of bounds, plan, entry and construct: the word for it, its
 -- number, and its parts. This project's own.
-use Rattle.std.specs.Prelude.{ℕ, suc, List, [], ◌∷◌, ◌++◌, map, length, ℤ, codes}
+use Rattle.std.specs.Prelude.{ℕ, suc, List, [], ◌∷◌, ◌++◌, length, ℤ, codes}
 use Rattle.dc_int.specs.declared.kind.Kind.{Kind}
 use Rattle.dc_int.specs.declared.variable.Shape.{Shape}
 use Rattle.dc_int.specs.Store.{Bounds}
@@ -72,7 +72,7 @@ instruction_line place instruction = line (number place) (instruction_words inst
 
 -- the line of an item that is told by a word
 abbrev pub told_line : {A : Type 0} → Word → (A → List Word) → ℕ → A → List ℕ
-told_line word words number_of item = line word (number number_of ∷ words item)
+told_line word words place item = line word (number place ∷ words item)
 
 -- The listing of a code.
 abbrev pub listing : CodeLists → List ℕ
