@@ -1,13 +1,12 @@
 -- The small code is well formed.
-use Rattle.std.proofs.Common.{◌≡◌, ◌≤◌, ◌<◌, ℕ, zero, suc, true, false, List, [], ◌∷◌, Option, Some, None, refl, sym, subst, arith}
+use Rattle.std.proofs.Common.{◌≡◌, ◌≤◌, ◌<◌, ℕ, zero, suc, [], ◌∷◌, Some, refl, subst, arith}
 use Rattle.std.proofs.lemmas.Option.{same_Some}
 use Rattle.std.specs.Prelude.{slice_get, pos}
 use Rattle.dc_int.specs.declared.kind.Kind.{Kind}
 use Rattle.dc_code.specs.declared.instr.Instr.{Instr}
 use Rattle.dc_code.specs.declared.instr.What.{What}
-use Rattle.dc_code.specs.declared.plan.Plan.{Plan}
 use Rattle.dc_code.specs.StackSorts.{Sorts, number, in_variable, in_group}
-use Rattle.dc_code.specs.WellFormed.{IsWellFormed, Part, PartOf, PlanFits, Stands, end_of, main, header, body, parts}
+use Rattle.dc_code.specs.WellFormed.{IsWellFormed, Part, PlanFits, Stands, end_of, main, header, body, parts}
 use Rattle.listing_rows.specs.Small.{at_line, instructions, empty_plan, body_plan, construct, small}
 
 abbrev main_part : Part
@@ -44,7 +43,7 @@ sorts_at (suc (suc (suc (suc (suc (suc (suc (suc (suc (suc (suc zero))))))))))) 
 sorts_at (suc (suc (suc (suc (suc (suc (suc (suc (suc (suc (suc (suc zero)))))))))))) = []
 sorts_at (suc (suc (suc (suc (suc (suc (suc (suc (suc (suc (suc (suc (suc k))))))))))))) = []
 
--- An instruction that is no jump and doesn't end its part.
+-- An instruction that stands where it does, and what it leaves on the stack.
 abbrev Found : Part → ℕ → Instr → Type 0
 Found part at instr = (after : Sorts) × Stands small sorts_at part at instr after
 

@@ -1,4 +1,4 @@
-use Rattle.std.proofs.Common.{◌≡◌, [], sym, subst}
+use Rattle.std.proofs.Common.{◌≡◌, sym, subst}
 use Rattle.dc_code.specs.Codes.{CodeLists}
 use Rattle.dc_code.specs.WellFormed.{IsWellFormed}
 use Rattle.listing_rows.specs.Small.{small}
