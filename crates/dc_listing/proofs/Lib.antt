@@ -1,0 +1,10 @@
+pub mod Examples
+pub mod Fields
+pub mod Lines
+pub mod NamesBack
+pub mod Numbers
+pub mod PartsTell
+pub mod Plain
+pub mod Sections
+pub mod Whats
+pub mod WholeTells

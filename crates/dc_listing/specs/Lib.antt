@@ -1,0 +1,3 @@
+pub mod Instructions
+pub mod Listing
+pub mod Words

@@ -1,0 +1,5 @@
+//! The listing of a small code.
+#![tactic(auto)]
+
+#[cfg(test)]
+mod looping;
