@@ -1,26 +1,33 @@
 -- SUM, COUNT, ANY and ALL, one value after another.
-use Rattle.std.proofs.Common.{◌≡◌, ℕ, suc, ◌+◌, Bool, true, false, List, [], ◌∷◌, length, Option, refl, sym, ap, ◌∙◌, arith}
+use Rattle.std.proofs.Common.{◌≡◌, ◌<◌, ℕ, suc, ◌+◌, Bool, true, false, List, [], ◌∷◌, length, Option, Some, refl, sym, ap, ◌∙◌, subst, arith}
 use Rattle.std.proofs.lemmas.Int.{ints, int_wrap_fits, int_wrap-add_left}
-use Rattle.std.specs.Prelude.{ℤ, pos, ◌+ℤ◌, ◌||◌, ◌&&◌, filter, FitsSigned}
+use Rattle.std.specs.Prelude.{ℤ, pos, ◌+ℤ◌, ◌||◌, ◌&&◌, filter, if◌then◌else◌, FitsSigned}
 use Rattle.std.specs.Int.{w32}
 use Rattle.std.specs.List.{list_any, list_all}
 use Rattle.dc_int.specs.declared.access.ElementId.{ElementId}
 use Rattle.dc_int.specs.declared.kind.Kind.{Kind}
 use Rattle.dc_int.specs.declared.operation.ReduceOp.{ReduceOp}
+use Rattle.dc_int.specs.declared.variable.Shape.{Shape}
+use Rattle.dc_int.specs.Entries.{Entry}
+use Rattle.dc_int.specs.Store.{Store}
 use Rattle.dc_int.specs.Kinds.{wrapped}
-use Rattle.dc_int.specs.Reductions.{truth, number_of_truth}
+use Rattle.dc_int.specs.Reductions.{truth, number_of_truth, combined}
+use Rattle.dc_code.specs.declared.frame.Item.{Item}
 use Rattle.dc_code.specs.declared.instr.Folding.{Folding}
+use Rattle.dc_code.specs.declared.plan.Group.{Group}
 use Rattle.dc_code.specs.Closing.{combined_with}
-use Rattle.dc_code.specs.Codes.{CodeLists}
-use Rattle.dc_code.specs.Computation.{give, sequence}
-use Rattle.dc_code.specs.Instructions.{folded}
-use Rattle.dc_code.specs.Reaching.{all_read, all_required}
+use Rattle.dc_code.specs.Codes.{CodeLists, element, elements_of_variable}
+use Rattle.dc_code.specs.Computation.{give, sequence, done}
+use Rattle.dc_code.specs.Frames.{Frame, pushed}
+use Rattle.dc_code.specs.Instructions.{folded, folding_pushed, slot_folding_pushed}
+use Rattle.dc_code.specs.OverCells.{over_cells}
+use Rattle.dc_code.specs.Reaching.{element_read, all_read, all_required, group_slots}
 use Rattle.dc_code.specs.Troubles.{Computing}
-use Rattle.dc_steps.specs.Elementwise.{folded_first, folded_from, elements_folded, states_folded}
+use Rattle.dc_steps.specs.Elementwise.{folded_first, folded_further, folded_from, elements_folded, states_folded}
 
 sum-from : (kind : Kind) (before : ℤ) (zs : List ℤ) → folded_from Folding.Sum kind before zs ≡ combined_with ReduceOp.Add kind before zs
 sum-from kind before [] = refl
-sum-from kind before (z ∷ zs) = sum-from kind _ zs
+sum-from kind before (z ∷ zs) = sum-from kind (folded_further Folding.Sum kind before z) zs
 
 truth-back : (b : Bool) → truth (number_of_truth b) ≡ b
 truth-back true = refl
@@ -93,3 +100,79 @@ elements_first code line folding kind elements = λ i. sequence (all_read code l
 pub states_first : (line : ℕ) (folding : Folding) (kind : Kind) (states : List (Option ℤ))
     → states_folded line folding kind states ≡ states_onto line folding kind (folded_first folding) states
 states_first line folding kind states = λ i. sequence (all_required line states) (λ zs. give (sym (folded_is folding kind zs) i))
+
+-- ---- one value more
+
+pub states_more : (line : ℕ) (folding : Folding) (kind : Kind) (before z after : ℤ) (states more : List (Option ℤ))
+    → states ≡ Some z ∷ more → after ≡ folded_further folding kind before z
+    → states_onto line folding kind before states ≡ states_onto line folding kind after more
+states_more line folding kind before z after states more is same =
+    ap (states_onto line folding kind before) is
+    ∙ (required_more line z more (λ zs. give (folded_from folding kind before zs))
+    ∙ ap (λ after. states_onto line folding kind after more) (sym same))
+
+module _ {M : Type 0} (code : CodeLists) (shown : M → Store) (after : Entry → M → M) (line : ℕ) (held now : M) (folding : Folding) (kind : Kind) (variable position count : ℕ) (before : ℤ) (less : position < count) where
+  pub folded_more : (z further : ℤ) → over_cells shown after held (element_read code line (element variable position)) ≡ record { meaning = now; reached = done z }
+      → further ≡ folded_further folding kind before z
+      → over_cells shown after held (folded_onto code line folding kind before (elements_from variable position count))
+      ≡ over_cells shown after now (folded_onto code line folding kind further (elements_from variable (position + 1) count))
+  folded_more z further reached same =
+      ap (λ elements. over_cells shown after held (folded_onto code line folding kind before elements)) (elements_more variable position count less)
+      ∙ (read_more code shown after line held now (element variable position) (elements_from variable (position + 1) count) z (λ zs. give (folded_from folding kind before zs)) reached
+      ∙ ap (λ further. over_cells shown after now (folded_onto code line folding kind further (elements_from variable (position + 1) count))) (sym same))
+
+  pub folded_stops : (halt : Halt) → Reaches line (Err halt) (λ (z : ℤ). z) now (over_cells shown after held (element_read code line (element variable position)))
+      → Reaches line (Err halt) (λ (z : ℤ). z) now (over_cells shown after held (folded_onto code line folding kind before (elements_from variable position count)))
+  folded_stops halt halts =
+      reaches_as line (Err halt) (λ (z : ℤ). z) now _ _
+      (ap (λ elements. over_cells shown after held (folded_onto code line folding kind before elements)) (elements_more variable position count less))
+      (read_halts code shown after line held now (element variable position) (elements_from variable (position + 1) count) halt (λ (z : ℤ). z) (λ zs. give (folded_from folding kind before zs)) halts)
+
+-- ---- what is made of them is pushed
+
+abbrev pushing : Frame → ℤ → Computing Frame
+pushing frame z = give (pushed (Item.Value z) frame)
+
+module _ {M : Type 0} (code : CodeLists) (shown : M → Store) (after : Entry → M → M) (held now : M) (line : ℕ) (folding : Folding) (variable : ℕ) (found : Option Shape) (shape : Shape) (is : found ≡ Some shape) (frame : Frame) where
+  made-first : folding_pushed code line folding variable found frame ≡ sequence (elements_folded code line folding shape.kind (elements_of_variable code variable)) (pushing frame)
+  made-first =
+      ap (λ found. folding_pushed code line folding variable found frame) is
+      ∙ sym (sequence-then (all_read code line (elements_of_variable code variable)) (λ zs. give (folded folding shape.kind zs)) (pushing frame))
+
+  pub folding_so : {U : Type 0} (z given : ℤ) (result : Result U Halt) (left : Frame)
+      → over_cells shown after held (elements_folded code line folding shape.kind (elements_of_variable code variable)) ≡ record { meaning = now; reached = done z }
+      → given ≡ z → Leaves line result left (value_pushed given frame)
+      → LeavesBoth line result left now (over_cells shown after held (folding_pushed code line folding variable found frame))
+  folding_so z given result left reached same leaves =
+      reaches_as line result (λ a. left) now _ _ (ap (over_cells shown after held) made-first)
+      (then_leaves shown after held now (elements_folded code line folding shape.kind (elements_of_variable code variable)) z reached line result left (pushing frame)
+      (subst (λ z. Leaves line result left (value_pushed z frame)) same leaves))
+
+  pub folding_halts : {U : Type 0} (halt : Halt) (left : Frame)
+      → Reaches line (Err halt) (λ (z : ℤ). z) now (over_cells shown after held (elements_folded code line folding shape.kind (elements_of_variable code variable)))
+      → LeavesBoth {A = U} line (Err halt) left now (over_cells shown after held (folding_pushed code line folding variable found frame))
+  folding_halts {U} halt left halts =
+      reaches_as line (Err halt) (λ (a : U). left) now _ _ (ap (over_cells shown after held) made-first)
+      (halts_alike line halt (λ (z : ℤ). z) (λ (a : U). left) shown after held now (elements_folded code line folding shape.kind (elements_of_variable code variable)) (pushing frame) halts)
+
+module _ (line : ℕ) (folding : Folding) (group : ℕ) (found : Option Group) (planned : Group) (is : found ≡ Some planned) (frame : Frame) where
+  states-first : slot_folding_pushed line folding group found frame ≡ sequence (states_folded line folding planned.kind (group_slots frame group)) (pushing frame)
+  states-first =
+      ap (λ found. slot_folding_pushed line folding group found frame) is
+      ∙ sym (sequence-then (all_required line (group_slots frame group)) (λ zs. give (folded folding planned.kind zs)) (pushing frame))
+
+  pub slot_folding_so : {U : Type 0} (states : List (Option ℤ)) (z given : ℤ) (result : Result U Halt) (left : Frame)
+      → states ≡ group_slots frame group → states_folded line folding planned.kind states ≡ give z
+      → given ≡ z → Leaves line result left (value_pushed given frame) → Leaves line result left (slot_folding_pushed line folding group found frame)
+  slot_folding_so states z given result left those made same leaves =
+      subst (Leaves line result left)
+      (sym (states-first ∙ (ap (λ states. sequence (states_folded line folding planned.kind states) (pushing frame)) (sym those) ∙ ap (λ c. sequence c (pushing frame)) made)))
+      (subst (λ z. Leaves line result left (value_pushed z frame)) same leaves)
+
+  pub slot_folding_halts : {U : Type 0} (states : List (Option ℤ)) (halt : Halt) (left : Frame)
+      → states ≡ group_slots frame group → Gives line (Err halt) (λ (z : ℤ). z) (states_folded line folding planned.kind states)
+      → Leaves {A = U} line (Err halt) left (slot_folding_pushed line folding group found frame)
+  slot_folding_halts {U} states halt left those halts =
+      subst (Leaves {A = U} line (Err halt) left)
+      (sym (states-first ∙ ap (λ states. sequence (states_folded line folding planned.kind states) (pushing frame)) (sym those)))
+      (gives_alike line halt (λ (z : ℤ). z) (λ (a : U). left) (states_folded line folding planned.kind states) (pushing frame) halts)

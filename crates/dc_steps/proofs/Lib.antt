@@ -5,6 +5,6 @@ pub mod Placing
 pub mod Rest
 pub mod Counts
 pub mod Behind
-pub mod Arguments
+pub mod Passes
 pub mod Folds
 pub mod Puts

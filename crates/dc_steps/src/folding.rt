@@ -106,8 +106,10 @@ pub fn folding_pushed<M: Cells>(
     let Some(shape) = code.shapes().get(variable as usize) else {
         return Err(STUCK);
     };
-    let value = elements_folded(alloc, code, cells, folding, shape.kind, variable, line)?;
-    value_pushed(frame, value)
+    match elements_folded(alloc, code, cells, folding, shape.kind, variable, line) {
+        Ok(value) => value_pushed(frame, value),
+        Err(halt) => Err(halt),
+    }
 }
 
 /// Pushes what is made of the slots of a group.
@@ -124,6 +126,8 @@ pub fn slot_folding_pushed(
     let Some(found) = group_of(code, frame.plan(), group) else {
         return Err(STUCK);
     };
-    let value = states_folded(frame.group(group), folding, found.kind)?;
-    value_pushed(frame, value)
+    match states_folded(frame.group(group), folding, found.kind) {
+        Ok(value) => value_pushed(frame, value),
+        Err(halt) => Err(halt),
+    }
 }

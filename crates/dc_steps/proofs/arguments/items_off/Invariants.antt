@@ -1,5 +1,5 @@
 use Rattle.std.specs.Prelude.{reverse}
-use Rattle.dc_steps.proofs.Arguments.{ItemsLeft}
+use Rattle.dc_steps.proofs.Passes.{ItemsLeft}
 use Rattle.dc_steps.proofs.arguments.items_off.Given as goal
 
 abbrev pub invariant-loop-left : goal.invariant-loop-left

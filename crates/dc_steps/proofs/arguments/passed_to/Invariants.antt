@@ -1,5 +1,5 @@
 use Rattle.std.proofs.Common.{drop}
-use Rattle.dc_steps.proofs.Arguments.{PassedLeft}
+use Rattle.dc_steps.proofs.Passes.{PassedLeft}
 use Rattle.dc_steps.proofs.arguments.passed_to.Given as goal
 
 abbrev pub invariant-loop-at : goal.invariant-loop-at

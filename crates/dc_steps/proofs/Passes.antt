@@ -1,13 +1,14 @@
 -- Items that are taken off one after another, the last first, and given to dummies.
-use Rattle.std.proofs.Common.{◌≡◌, ◌≢◌, ℕ, zero, suc, List, [], ◌∷◌, ◌++◌, length, append_assoc, append-nil, Some, None, refl, sym, ap, ◌∙◌}
-use Rattle.std.specs.Prelude.{ℤ, Result, Err}
+use Rattle.std.proofs.Common.{◌≡◌, ◌≢◌, ◌≤◌, ℕ, zero, suc, ◌+◌, List, [], ◌∷◌, ◌++◌, length, drop, append_assoc, append-nil, Some, None, refl, sym, ap, ◌∙◌, subst, arith}
+use Rattle.std.specs.Prelude.{ℤ, min, Result, Err}
 use Rattle.dc_code.specs.declared.frame.Item.{Item}
 use Rattle.dc_code.specs.declared.frame.Passed.{Passed}
 use Rattle.dc_code.specs.declared.plan.DummyPlan.{DummyPlan}
 use Rattle.dc_code.specs.declared.plan.Passing.{Passing}
+use Rattle.dc_code.specs.Codes.{CodeLists}
 use Rattle.dc_code.specs.Computation.{give, sequence, ◌>>=◌}
 use Rattle.dc_code.specs.Frames.{Frame}
-use Rattle.dc_code.specs.Instructions.{passed_as, passed_to}
+use Rattle.dc_code.specs.Instructions.{passed_as, passed_to, all_forgotten_out}
 use Rattle.dc_code.specs.Operands.{stuck, item_off, items_off}
 use Rattle.dc_code.specs.Troubles.{Computing}
 use Rattle.dc_code.proofs.Sequences.{sequence-then}
@@ -76,7 +77,7 @@ module _ (dummies : List DummyPlan) (items : List Item) (passed : List Passed) (
       (gives_alike line halt (λ (given : Passed). given) (λ (all : List Passed). all) (passed_as line dummy.passing item) (behind_first line) halts))
 
 -- An item is taken, or is stuck.
-stuck-behind : {A : Type 0} (line : ℕ) (passing : Passing) (item : Item) → sequence (passed_as line passing item) (λ given. stuck {A} line) ≡ stuck {A} line
+stuck-behind : {A : Type 0} (line : ℕ) (passing : Passing) (item : Item) → sequence (passed_as line passing item) (λ given. stuck {A = A} line) ≡ stuck {A = A} line
 stuck-behind line Passing.Value (Item.Value z) = refl
 stuck-behind line Passing.Value (Item.Position at) = refl
 stuck-behind line Passing.Value (Item.Place at) = refl
@@ -95,3 +96,44 @@ passed_apart (dummy ∷ dummies) [] line other = refl
 passed_apart (dummy ∷ dummies) (item ∷ items) line other =
     ap (λ c. sequence (passed_as line dummy.passing item) (λ first. sequence c (λ rest. give (first ∷ rest)))) (passed_apart dummies items line (λ same. other (ap suc same)))
     ∙ stuck-behind line dummy.passing item
+
+-- One more is passed, of those that are left.
+pub passed_next : (dummies : List DummyPlan) (items : List Item) (passed after : List Passed) (at : ℕ) (dummy : DummyPlan) (item : Item) (given : Passed)
+    → PassedLeft dummies items passed (drop at dummies) (drop at items)
+    → drop at dummies ≡ dummy ∷ drop (at + 1) dummies → drop at items ≡ item ∷ drop (at + 1) items → after ≡ passed ++ given ∷ []
+    → ((line : ℕ) → passed_as line dummy.passing item ≡ give given)
+    → PassedLeft dummies items after (drop (at + 1) dummies) (drop (at + 1) items)
+passed_next dummies items passed after at dummy item given before more others now is =
+    subst (λ after. PassedLeft dummies items after (drop (at + 1) dummies) (drop (at + 1) items)) (sym now)
+    (passed_more dummies items passed dummy (drop (at + 1) dummies) item (drop (at + 1) items)
+    (subst (λ items-left. PassedLeft dummies items passed (dummy ∷ drop (at + 1) dummies) items-left) others
+    (subst (λ dummies-left. PassedLeft dummies items passed dummies-left (drop at items)) more before)) given is)
+
+pub passed_not : {A : Type 0} (dummies : List DummyPlan) (items : List Item) (passed : List Passed) (at : ℕ) (dummy : DummyPlan) (item : Item) (halt : Halt) (made : A → List Passed) (line : ℕ)
+    → PassedLeft dummies items passed (drop at dummies) (drop at items)
+    → drop at dummies ≡ dummy ∷ drop (at + 1) dummies → drop at items ≡ item ∷ drop (at + 1) items
+    → Gives line (Err halt) (λ (given : Passed). given) (passed_as line dummy.passing item) → Gives line (Err halt) made (passed_to line dummies items)
+passed_not dummies items passed at dummy item halt made line before more others halts =
+    passed_halts dummies items passed dummy (drop (at + 1) dummies) item (drop (at + 1) items)
+    (subst (λ items-left. PassedLeft dummies items passed (dummy ∷ drop (at + 1) dummies) items-left) others
+    (subst (λ dummies-left. PassedLeft dummies items passed dummies-left (drop at items)) more before)) halt made line halts
+
+-- No place is left to be made undefined.
+pub none_forgotten : (code : CodeLists) (line : ℕ) (dummies : List DummyPlan) (passed : List Passed) (at : ℕ) (frame : Frame)
+    → min (length dummies) (length passed) ≤ at → all_forgotten_out code line (drop at dummies) (drop at passed) frame ≡ give frame
+none_forgotten code line [] passed zero frame past = refl
+none_forgotten code line (dummy ∷ dummies) [] zero frame past = refl
+none_forgotten code line (dummy ∷ dummies) (first ∷ passed) zero frame past = absurd (not_within (length dummies) (length passed) past)
+  where
+    not_within : (m n : ℕ) → min (suc m) (suc n) ≤ 0 → ⊥
+    not_within m n past = omega (arith, past)
+none_forgotten code line [] passed (suc at) frame past = refl
+none_forgotten code line (dummy ∷ dummies) [] (suc at) frame past = nothing (drop at dummies)
+  where
+    nothing : (others : List DummyPlan) → all_forgotten_out code line others [] frame ≡ give frame
+    nothing [] = refl
+    nothing (other ∷ others) = refl
+none_forgotten code line (dummy ∷ dummies) (first ∷ passed) (suc at) frame past = none_forgotten code line dummies passed at frame (below (length dummies) (length passed) past)
+  where
+    below : (m n : ℕ) → min (suc m) (suc n) ≤ suc at → min m n ≤ at
+    below m n past = omega (arith, past)
