@@ -1,6 +1,6 @@
 //! Calls of procedures.
 
-ghost use Rattle.std.specs.Prelude.{◌<◌, ◌-◌, slice_get, ℕ};
+ghost use Rattle.std.specs.Prelude.{◌≡◌, ◌<◌, ◌-◌, slice_get};
 ghost use Rattle.dc_code.specs.declared.instr.What.{What};
 ghost use Rattle.dc_steps.specs.Carrying.{Carries};
 ghost use Rattle.dc_steps.specs.Ready.{AreReady, UnlessNextOver};
