@@ -11,7 +11,7 @@ use Rattle.dc_int.specs.declared.variable.Shape.{Shape}
 use Rattle.dc_int.specs.Entries.{Entry}
 use Rattle.dc_int.specs.Store.{Store}
 use Rattle.dc_int.specs.Kinds.{wrapped}
-use Rattle.dc_int.specs.Reductions.{truth, number_of_truth, combined}
+use Rattle.dc_int.specs.Reductions.{truth, number_of_truth}
 use Rattle.dc_code.specs.declared.frame.Item.{Item}
 use Rattle.dc_code.specs.declared.instr.Folding.{Folding}
 use Rattle.dc_code.specs.declared.plan.Group.{Group}

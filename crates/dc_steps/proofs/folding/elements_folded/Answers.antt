@@ -1,4 +1,4 @@
-use Rattle.std.proofs.Common.{to_z, ◌+◌, ◌≡◌, ℕ, FitsSigned, w64, sym, ap, ◌∙◌, rules}
+use Rattle.std.proofs.Common.{to_z, ◌≡◌, ℕ, FitsSigned, w64, sym, ap, ◌∙◌, rules}
 use Rattle.std.proofs.lemmas.Int.{to_z-of_z}
 use Rattle.std.specs.Prelude.{ℤ, Err}
 use Rattle.std.specs.Prelude.{map}
