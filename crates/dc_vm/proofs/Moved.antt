@@ -1,29 +1,31 @@
 -- From the work of an instruction of each group to the instruction.
-use Rattle.std.proofs.Common.{◌≡◌, ℕ, suc, false, [], ◌∷◌, ◌++◌, Option, Some, None, refl, sym, ap, ◌∙◌, subst}
-use Rattle.std.specs.Prelude.{slice_get, Result, Ok, Err}
+use Rattle.std.proofs.Common.{◌≡◌, ℕ, suc, Bool, true, false, [], ◌∷◌, ◌++◌, Option, Some, None, refl, sym, ap, ◌∙◌, subst}
+use Rattle.std.specs.Prelude.{ℤ, length, nat_lt, slice_get, if◌then◌else◌, Result, Ok, Err}
 use Rattle.dc_int.specs.Entries.{Entry}
 use Rattle.dc_int.specs.Store.{Store}
+use Rattle.dc_int.specs.Reductions.{truth}
 use Rattle.dc_code.specs.declared.instr.Instr.{Instr}
 use Rattle.dc_code.specs.declared.instr.What.{What}
 use Rattle.dc_code.specs.Codes.{CodeLists}
-use Rattle.dc_code.specs.Computation.{give, pause, Reached, done, bad, paused}
-use Rattle.dc_code.specs.Frames.{Frame, with_line}
-use Rattle.dc_code.specs.Instructions.{Going, act, behind}
-use Rattle.dc_code.specs.Operands.{item_off}
+use Rattle.dc_code.specs.Computation.{give, pause, sequence, Reached, done, bad, paused}
+use Rattle.dc_code.specs.Frames.{Frame, with_line, innermost, left_unit}
+use Rattle.dc_code.specs.Instructions.{Going, act, behind, ahead, returned}
+use Rattle.dc_code.specs.Operands.{stuck, item_off, value_off}
 use Rattle.dc_code.specs.OverCells.{CellsRun, over_cells}
 use Rattle.dc_code.specs.Troubles.{Computing, Event, Failure, write_line}
 use Rattle.dc_code.proofs.Sequences.{sequence-then}
 use Rattle.dc_steps.specs.declared.ended.Ended.{Ended}
 use Rattle.dc_steps.specs.declared.ended.Next.{Next}
 use Rattle.dc_steps.specs.declared.halt.Halt.{Halt}
+use Rattle.dc_steps.specs.Calling.{unit_left}
 use Rattle.dc_steps.specs.Carrying.{Carries}
 use Rattle.dc_steps.specs.Ending.{Steps, Ends, ComesTo, next_behind, what_is_left, left_at}
-use Rattle.dc_steps.specs.Halting.{Leaves, LeavesBoth}
+use Rattle.dc_steps.specs.Halting.{Gives, Leaves, LeavesBoth}
 use Rattle.dc_steps.specs.Working.{line_ended}
 use Rattle.dc_steps.proofs.Leading.{led, led_alone}
 use Rattle.dc_vm.specs.declared.work.Work.{Work}
 use Rattle.dc_vm.specs.Groups.{work_of, values_made, frame_asked, cells_asked}
-use Rattle.dc_vm.specs.Moving.{Moves, EndsAlone, paused_behind, halted}
+use Rattle.dc_vm.specs.Moving.{Moves, EndsAlone, paused_behind, halted, jumped_unless}
 
 -- ---- what an instruction of each group does
 
@@ -107,12 +109,51 @@ abbrev given_or : Frame → Computing Frame → Frame
 given_or other (give frame) = frame
 given_or other c = other
 
-given-same : (first second : Frame) → give first ≡ give second → first ≡ second
+given-same : (first second : Frame) → ◌≡◌ {A = Computing Frame} (give first) (give second) → first ≡ second
 given-same first second same = ap (given_or first) same
 
 -- the frame with a line feed at the end of its line
 abbrev ended : Frame → Frame
 ended frame = with_line (frame.line ++ 10 ∷ []) frame.begun frame
+
+-- ---- moves
+
+-- What moves as another that does the same.
+pub moves_alike : (next : Next) (left : Frame) (moved other : Going → Computing (Frame × ℕ)) → ((go : Going) → moved go ≡ other go) → Moves next left other → Moves next left moved
+moves_alike (Next.On at turns) left moved other same moves = λ go. same go ∙ moves go
+moves_alike (Next.Over ended) left moved other same moves = λ go. subst (EndsAlone ended left) (sym (same go)) (moves go)
+
+-- A work that ends badly.
+pub halts_move : {A B : Type 0} (halt : Halt) (line : ℕ) (left : Frame) (made : A → B) (work : Computing B) (next : Going → B → Computing (Frame × ℕ))
+    → Gives line (Err halt) made work → Moves (halted halt line) left (λ go. sequence work (next go))
+halts_move (Halt.Fault kind) line left made work next gives = λ go. ap (λ c. sequence c (next go)) gives
+halts_move Halt.NoMemory line left made work next gives = λ go. tt
+
+-- Where a truth that is taken off is false.
+pub unless_false : (next : Next) (line target at turns : ℕ) (frame left : Frame) (z : ℤ) → value_off line frame ≡ give (z, left) → truth z ≡ false
+    → Moves next left (λ go. ahead go line target at left turns) → Moves next left (λ go. jumped_unless go line target at frame turns)
+unless_false next line target at turns frame left z off is moves =
+    moves_alike next left (λ go. jumped_unless go line target at frame turns) (λ go. ahead go line target at left turns)
+    (λ go. ap (λ c. sequence c (λ (w : ℤ × Frame). if truth w.0 then go (suc at) w.1 turns else ahead go line target at w.1 turns)) off
+    ∙ ap (λ b. if b then go (suc at) left turns else ahead go line target at left turns) is)
+    moves
+
+-- A return is a unit that is left, and then what is behind its call.
+returned-first : (go : Going) (line : ℕ) (frame : Frame) (turns : ℕ) → returned go line frame turns ≡ sequence (unit_left line frame) (λ (w : ℕ × Frame). go w.0 w.1 turns)
+returned-first go line frame turns = by (nat_lt 1 (length frame.units))
+  where
+    by : (b : Bool) → (if b then go (innermost frame).back (left_unit frame) turns else stuck line) ≡ sequence (if b then give ((innermost frame).back, left_unit frame) else stuck line) (λ (w : ℕ × Frame). go w.0 w.1 turns)
+    by true = refl
+    by false = refl
+
+pub returned_so : (line turns : ℕ) (frame left : Frame) (back : ℕ) → unit_left line frame ≡ give (back, left) → (go : Going) → returned go line frame turns ≡ go back left turns
+returned_so line turns frame left back is go = returned-first go line frame turns ∙ ap (λ c. sequence c (λ (w : ℕ × Frame). go w.0 w.1 turns)) is
+
+pub returned_halts : (halt : Halt) (line turns : ℕ) (frame left : Frame) → Gives line (Err halt) (λ (back : ℕ). (back, left)) (unit_left line frame)
+    → Moves (halted halt line) left (λ go. returned go line frame turns)
+returned_halts halt line turns frame left gives =
+    moves_alike (halted halt line) left (λ go. returned go line frame turns) (λ go. sequence (unit_left line frame) (λ (w : ℕ × Frame). go w.0 w.1 turns)) (λ go. returned-first go line frame turns)
+    (halts_move halt line left (λ (back : ℕ). (back, left)) (unit_left line frame) (λ go w. go w.0 w.1 turns) gives)
 
 -- ---- over cells
 
