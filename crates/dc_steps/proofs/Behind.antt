@@ -1,5 +1,5 @@
 -- What follows a computation that halts, and what is made of values that are read one after another.
-use Rattle.std.proofs.Common.{◌≡◌, ℕ, List, ◌∷◌, Option, Some, None, refl, ap, ◌∙◌}
+use Rattle.std.proofs.Common.{◌≡◌, ℕ, List, ◌∷◌, Option, Some, refl, ap, ◌∙◌}
 use Rattle.std.specs.Prelude.{ℤ, Result, Err}
 use Rattle.dc_int.specs.declared.access.ElementId.{ElementId}
 use Rattle.dc_int.specs.Entries.{Entry}
@@ -8,7 +8,6 @@ use Rattle.dc_code.specs.Codes.{CodeLists}
 use Rattle.dc_code.specs.Computation.{give, fail, read, define, undefine, contribute, ask, pause, sequence, done}
 use Rattle.dc_code.specs.OverCells.{CellsRun, over_cells}
 use Rattle.dc_code.specs.Reaching.{element_read, all_read, all_required}
-use Rattle.dc_code.specs.Operands.{required}
 use Rattle.dc_code.specs.Troubles.{Computing, Event, Failure}
 use Rattle.dc_code.proofs.Sequences.{sequence-then}
 use Rattle.dc_steps.specs.declared.halt.Halt.{Halt}

@@ -1,7 +1,7 @@
 -- SUM, COUNT, ANY and ALL, one value after another.
 use Rattle.std.proofs.Common.{◌≡◌, ◌<◌, ℕ, suc, ◌+◌, Bool, true, false, List, [], ◌∷◌, length, Option, Some, refl, sym, ap, ◌∙◌, subst, arith}
 use Rattle.std.proofs.lemmas.Int.{ints, int_wrap_fits, int_wrap-add_left}
-use Rattle.std.specs.Prelude.{ℤ, pos, ◌+ℤ◌, ◌||◌, ◌&&◌, filter, if◌then◌else◌, FitsSigned}
+use Rattle.std.specs.Prelude.{ℤ, pos, ◌+ℤ◌, ◌||◌, ◌&&◌, filter, Result, Err, if◌then◌else◌, FitsSigned}
 use Rattle.std.specs.Int.{w32}
 use Rattle.std.specs.List.{list_any, list_all}
 use Rattle.dc_int.specs.declared.access.ElementId.{ElementId}
@@ -11,7 +11,7 @@ use Rattle.dc_int.specs.declared.variable.Shape.{Shape}
 use Rattle.dc_int.specs.Entries.{Entry}
 use Rattle.dc_int.specs.Store.{Store}
 use Rattle.dc_int.specs.Kinds.{wrapped}
-use Rattle.dc_int.specs.Reductions.{truth, number_of_truth, combined}
+use Rattle.dc_int.specs.Reductions.{truth, number_of_truth}
 use Rattle.dc_code.specs.declared.frame.Item.{Item}
 use Rattle.dc_code.specs.declared.instr.Folding.{Folding}
 use Rattle.dc_code.specs.declared.plan.Group.{Group}
@@ -23,7 +23,14 @@ use Rattle.dc_code.specs.Instructions.{folded, folding_pushed, slot_folding_push
 use Rattle.dc_code.specs.OverCells.{over_cells}
 use Rattle.dc_code.specs.Reaching.{element_read, all_read, all_required, group_slots}
 use Rattle.dc_code.specs.Troubles.{Computing}
-use Rattle.dc_steps.specs.Elementwise.{folded_first, folded_further, folded_from, elements_folded, states_folded}
+use Rattle.dc_code.proofs.Sequences.{sequence-then}
+use Rattle.dc_steps.specs.declared.halt.Halt.{Halt}
+use Rattle.dc_steps.specs.Elementwise.{elements_from, folded_first, folded_further, folded_from, elements_folded, states_folded}
+use Rattle.dc_steps.specs.Halting.{Gives, Leaves, Reaches, LeavesBoth}
+use Rattle.dc_steps.specs.Working.{value_pushed}
+use Rattle.dc_steps.proofs.Behind.{gives_alike, halts_alike, reaches_as, read_more, read_halts, required_more}
+use Rattle.dc_steps.proofs.Leading.{then_leaves}
+use Rattle.dc_steps.proofs.Rest.{elements_more}
 
 sum-from : (kind : Kind) (before : ℤ) (zs : List ℤ) → folded_from Folding.Sum kind before zs ≡ combined_with ReduceOp.Add kind before zs
 sum-from kind before [] = refl
@@ -148,10 +155,10 @@ module _ {M : Type 0} (code : CodeLists) (shown : M → Store) (after : Entry �
       (then_leaves shown after held now (elements_folded code line folding shape.kind (elements_of_variable code variable)) z reached line result left (pushing frame)
       (subst (λ z. Leaves line result left (value_pushed z frame)) same leaves))
 
-  pub folding_halts : {U : Type 0} (halt : Halt) (left : Frame)
+  pub folding_halts : (U : Type 0) (halt : Halt) (left : Frame)
       → Reaches line (Err halt) (λ (z : ℤ). z) now (over_cells shown after held (elements_folded code line folding shape.kind (elements_of_variable code variable)))
       → LeavesBoth {A = U} line (Err halt) left now (over_cells shown after held (folding_pushed code line folding variable found frame))
-  folding_halts {U} halt left halts =
+  folding_halts U halt left halts =
       reaches_as line (Err halt) (λ (a : U). left) now _ _ (ap (over_cells shown after held) made-first)
       (halts_alike line halt (λ (z : ℤ). z) (λ (a : U). left) shown after held now (elements_folded code line folding shape.kind (elements_of_variable code variable)) (pushing frame) halts)
 
@@ -169,10 +176,10 @@ module _ (line : ℕ) (folding : Folding) (group : ℕ) (found : Option Group) (
       (sym (states-first ∙ (ap (λ states. sequence (states_folded line folding planned.kind states) (pushing frame)) (sym those) ∙ ap (λ c. sequence c (pushing frame)) made)))
       (subst (λ z. Leaves line result left (value_pushed z frame)) same leaves)
 
-  pub slot_folding_halts : {U : Type 0} (states : List (Option ℤ)) (halt : Halt) (left : Frame)
+  pub slot_folding_halts : (U : Type 0) (states : List (Option ℤ)) (halt : Halt) (left : Frame)
       → states ≡ group_slots frame group → Gives line (Err halt) (λ (z : ℤ). z) (states_folded line folding planned.kind states)
       → Leaves {A = U} line (Err halt) left (slot_folding_pushed line folding group found frame)
-  slot_folding_halts {U} states halt left those halts =
+  slot_folding_halts U states halt left those halts =
       subst (Leaves {A = U} line (Err halt) left)
       (sym (states-first ∙ ap (λ states. sequence (states_folded line folding planned.kind states) (pushing frame)) (sym those)))
       (gives_alike line halt (λ (z : ℤ). z) (λ (a : U). left) (states_folded line folding planned.kind states) (pushing frame) halts)

@@ -1,6 +1,6 @@
 -- Items that are taken off one after another, the last first, and given to dummies.
 use Rattle.std.proofs.Common.{◌≡◌, ◌≢◌, ◌≤◌, ℕ, zero, suc, ◌+◌, List, [], ◌∷◌, ◌++◌, length, drop, append_assoc, append-nil, Some, None, refl, sym, ap, ◌∙◌, subst, arith}
-use Rattle.std.specs.Prelude.{ℤ, min, Result, Err}
+use Rattle.std.specs.Prelude.{min, Err}
 use Rattle.dc_code.specs.declared.frame.Item.{Item}
 use Rattle.dc_code.specs.declared.frame.Passed.{Passed}
 use Rattle.dc_code.specs.declared.plan.DummyPlan.{DummyPlan}

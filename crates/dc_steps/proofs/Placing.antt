@@ -1,8 +1,7 @@
 -- What is known of positions and of the groups of plans.
 use Rattle.std.proofs.Common.{◌≡◌, ℕ, zero, suc, Bool, true, false, List, [], ◌∷◌, length, Some, refl, sym, ap, ◌∙◌, IsTrue}
-use Rattle.std.specs.Prelude.{◌&&◌, length, slice_get}
+use Rattle.std.specs.Prelude.{◌&&◌, slice_get}
 use Rattle.std.specs.List.{list_all}
-use Rattle.dc_int.specs.Store.{changed_at}
 use Rattle.dc_int.specs.Store.{changed_at}
 use Rattle.dc_code.specs.declared.plan.Group.{Group}
 use Rattle.dc_code.specs.declared.plan.Plan.{Plan}
@@ -26,17 +25,10 @@ found-passes p (first ∷ items) (suc at) item all found = found-passes p items 
 pub small_group : (plan : Plan) (at : ℕ) (group : Group) → IsTrue (has_small_groups plan) → slice_get plan.groups at ≡ Some group → IsTrue (is_small group.bounds)
 small_group plan at group small found = found-passes (λ (g : Group). is_small g.bounds) plan.groups at group small found
 
-
 -- A change of one item leaves as many.
 pub length_changed : {A : Type 0} (change : A → A) (items : List A) (place : ℕ) → length (changed_at change items place) ≡ length items
 length_changed change [] place = refl
 length_changed change (item ∷ items) zero = refl
 length_changed change (item ∷ items) (suc place) = ap suc (length_changed change items place)
-
--- As many items are left where one is changed.
-pub length_changed : {A : Type 0} (change : A → A) (items : List A) (at : ℕ) → length (changed_at change items at) ≡ length items
-length_changed change [] at = refl
-length_changed change (item ∷ items) zero = refl
-length_changed change (item ∷ items) (suc at) = ap suc (length_changed change items at)
 
 pub ruleset placing = (positioned-subscripts, small_group)

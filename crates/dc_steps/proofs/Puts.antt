@@ -32,15 +32,15 @@ module _ {M : Type 0} (code : CodeLists) (shown : M → Store) (after : Entry �
   abbrev putting : List ℤ → Computing Frame
   putting zs = give (put_each (map (written (sort_of_shape shape)) zs) frame)
 
-  pub put_more : (z : ℤ) (left : Frame) → over_cells shown after held (element_read code line (element variable position)) ≡ record { meaning = now; reached = done z }
-      → left ≡ put (written (sort_with shape.logical Kind.K8) z) frame
+  pub put_more : (z given : ℤ) (left : Frame) → over_cells shown after held (element_read code line (element variable position)) ≡ record { meaning = now; reached = done z }
+      → given ≡ z → left ≡ put (written (sort_with shape.logical Kind.K8) given) frame
       → over_cells shown after held (put_onto code line shape (elements_from variable position shape.elements) frame)
       ≡ over_cells shown after now (put_onto code line shape (elements_from variable (position + 1) shape.elements) left)
-  put_more z left reached is =
+  put_more z given left reached same is =
       ap (λ elements. over_cells shown after held (put_onto code line shape elements frame)) (elements_more variable position shape.elements less)
       ∙ (read_more code shown after line held now (element variable position) (elements_from variable (position + 1) shape.elements) z putting reached
       ∙ ap (λ left. over_cells shown after now (put_onto code line shape (elements_from variable (position + 1) shape.elements) left))
-      (sym (is ∙ ap (λ bytes. put bytes frame) (written_alike shape.logical Kind.K8 shape.kind z))))
+      (sym (is ∙ (ap (λ z. put (written (sort_with shape.logical Kind.K8) z) frame) same ∙ ap (λ bytes. put bytes frame) (written_alike shape.logical Kind.K8 shape.kind z)))))
 
   pub put_stops : {A : Type 0} (halt : Halt) (made : A → Frame) → Reaches line (Err halt) (λ (z : ℤ). z) now (over_cells shown after held (element_read code line (element variable position)))
       → Reaches line (Err halt) made now (over_cells shown after held (put_onto code line shape (elements_from variable position shape.elements) frame))

@@ -11,7 +11,7 @@ ghost use Rattle.dc_steps.specs.Halting.{Gives, Leaves, Reaches, LeavesBoth};
 ghost use Rattle.dc_steps.specs.Ready.{AreReady, UnlessNoMemory};
 
 use crate::arrays::elements_of;
-use crate::elements::element_read;
+use crate::elements::{element_read, shape_numbered};
 use crate::halt::{Halt, STUCK};
 use crate::places::group_of;
 use crate::values::value_pushed;
@@ -101,9 +101,9 @@ pub fn folding_pushed<M: Cells>(
     ensures folds { LeavesBoth line result frame.new (M.holds cells.new)
         (over_cells M.shown M.after (M.holds cells.old)
         (folding_pushed code.now line folding variable
-            (slice_get (code.now).shapes variable) frame.old)) }
+        (slice_get (code.now).shapes variable) frame.old)) }
 {
-    let Some(shape) = code.shapes().get(variable as usize) else {
+    let Some(shape) = shape_numbered(code, variable) else {
         return Err(STUCK);
     };
     match elements_folded(alloc, code, cells, folding, shape.kind, variable, line) {
@@ -121,7 +121,7 @@ pub fn slot_folding_pushed(
 ) -> Result<(), Halt>
     ensures { (line : ℕ) → Leaves line result frame.new
         (slot_folding_pushed line folding group
-            (group_planned code.now frame.old group) frame.old) }
+        (group_planned code.now frame.old group) frame.old) }
 {
     let Some(found) = group_of(code, frame.plan(), group) else {
         return Err(STUCK);

@@ -9,7 +9,7 @@ ghost use Rattle.dc_steps.specs.Halting.{Leaves, LeavesBoth};
 ghost use Rattle.dc_steps.specs.Ready.{AreReady, UnlessNoMemory};
 ghost use Rattle.dc_steps.specs.Working.{line_ended};
 
-use crate::elements::element_read;
+use crate::elements::{element_read, shape_numbered};
 use crate::halt::{Halt, STUCK};
 use crate::values::value_off;
 use dc_code::Code;
@@ -84,8 +84,8 @@ pub fn all_put<M: Cells>(
         (over_cells M.shown M.after (M.holds cells.old)
         (all_put code.now line variable (slice_get (code.now).shapes variable) frame.old)) }
 {
-    match code.shapes().get(variable as usize) {
-        Some(shape) => elements_put(alloc, code, frame, cells, variable, *shape, line),
+    match shape_numbered(code, variable) {
+        Some(shape) => elements_put(alloc, code, frame, cells, variable, shape, line),
         None => Err(STUCK),
     }
 }

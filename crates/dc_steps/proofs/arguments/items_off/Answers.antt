@@ -1,4 +1,5 @@
-use Rattle.std.proofs.Common.{suc, ◌-◌, ◌≡◌, ◌∷◌, ◌∙◌, ap, subst, reverse, arith}
+use Rattle.std.proofs.Common.{suc, ◌-◌, ◌≡◌, [], ◌∷◌, ◌∙◌, ap, sym, subst, arith}
+use Rattle.std.specs.Prelude.{reverse}
 use Rattle.std.proofs.lemmas.List.{reverse-append}
 use Rattle.dc_steps.proofs.Passes.{ItemsLeft, items_first, items_missing, items_more}
 use Rattle.dc_steps.proofs.arguments.items_off.Goals as goal

@@ -1,6 +1,5 @@
 use Rattle.std.proofs.Common.{◌<◌, length, subst, sym, arith}
 use Rattle.std.proofs.lemmas.List.{drop_more}
-use Rattle.dc_code.specs.declared.frame.Passed.{Passed}
 use Rattle.dc_steps.proofs.Passes.{PassedLeft, passed_first, passed_apart, passed_next, passed_not}
 use Rattle.dc_steps.proofs.arguments.passed_to.Goals as goal
 
