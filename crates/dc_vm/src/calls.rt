@@ -1,6 +1,6 @@
 //! Calls of procedures.
 
-ghost use Rattle.std.specs.Prelude.{◌<◌, ◌-◌, slice_get, ℕ};
+ghost use Rattle.std.specs.Prelude.{◌≡◌, ◌<◌, ◌-◌, slice_get};
 ghost use Rattle.dc_code.specs.declared.instr.What.{What};
 ghost use Rattle.dc_steps.specs.Carrying.{Carries};
 ghost use Rattle.dc_steps.specs.Ready.{AreReady, UnlessNextOver};
@@ -52,7 +52,16 @@ pub(crate) fn called<M: Cells>(
     if turns == 0 {
         return Next::Over(Ended::Spent { line });
     }
-    match entered(alloc, code, frame, cells, procedure, passed, at as u32 + 1, line) {
+    match entered(
+        alloc,
+        code,
+        frame,
+        cells,
+        procedure,
+        passed,
+        at as u32 + 1,
+        line,
+    ) {
         Ok(()) => Next::On {
             at: entry as usize,
             turns: turns - 1,
