@@ -1,8 +1,7 @@
 //! Jumps, and the turns that they spend.
 
-ghost use Rattle.std.specs.Prelude.{◌≡◌};
-ghost use Rattle.dc_int.specs.Reductions.{truth};
-ghost use Rattle.dc_code.specs.Computation.{◌>>=◌};
+ghost use Rattle.std.specs.Prelude.{◌<◌};
+ghost use Rattle.dc_code.specs.Computation.{sequence};
 ghost use Rattle.dc_code.specs.Frames.{Frame};
 ghost use Rattle.dc_code.specs.Instructions.{Going, ahead, spent, returned};
 ghost use Rattle.dc_vm.specs.Moving.{Moves, jumped_unless};
@@ -53,7 +52,8 @@ pub(crate) fn ahead_unless(
 /// Spends a turn, and goes to a place.
 pub(crate) fn spent_to(to: usize, turns: u64, line: u32) -> Next
     ensures { (frame : Frame)
-        → Moves result frame (λ (go : Going). spent line turns >>= (λ left. go to frame left)) }
+        → Moves result frame
+        (λ (go : Going). sequence (spent line turns) (λ left. go to frame left)) }
 {
     if turns == 0 {
         return Next::Over(Ended::Spent { line });
