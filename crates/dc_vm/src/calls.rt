@@ -52,7 +52,16 @@ pub(crate) fn called<M: Cells>(
     if turns == 0 {
         return Next::Over(Ended::Spent { line });
     }
-    match entered(alloc, code, frame, cells, procedure, passed, at as u32 + 1, line) {
+    match entered(
+        alloc,
+        code,
+        frame,
+        cells,
+        procedure,
+        passed,
+        at as u32 + 1,
+        line,
+    ) {
         Ok(()) => Next::On {
             at: entry as usize,
             turns: turns - 1,
