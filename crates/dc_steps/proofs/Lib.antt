@@ -4,3 +4,7 @@ pub mod Onward
 pub mod Placing
 pub mod Rest
 pub mod Counts
+pub mod Behind
+pub mod Passes
+pub mod Folds
+pub mod Puts

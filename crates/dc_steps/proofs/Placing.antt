@@ -1,7 +1,8 @@
 -- What is known of positions and of the groups of plans.
-use Rattle.std.proofs.Common.{◌≡◌, ℕ, zero, suc, Bool, true, false, List, [], ◌∷◌, Some, refl, sym, ap, ◌∙◌, IsTrue}
+use Rattle.std.proofs.Common.{◌≡◌, ℕ, zero, suc, Bool, true, false, List, [], ◌∷◌, length, Some, refl, sym, ap, ◌∙◌, IsTrue}
 use Rattle.std.specs.Prelude.{◌&&◌, slice_get}
 use Rattle.std.specs.List.{list_all}
+use Rattle.dc_int.specs.Store.{changed_at}
 use Rattle.dc_code.specs.declared.plan.Group.{Group}
 use Rattle.dc_code.specs.declared.plan.Plan.{Plan}
 use Rattle.dc_code.specs.Codes.{is_small, has_small_groups}
@@ -23,5 +24,11 @@ found-passes p (first ∷ items) (suc at) item all found = found-passes p items 
 -- The groups of a plan are small.
 pub small_group : (plan : Plan) (at : ℕ) (group : Group) → IsTrue (has_small_groups plan) → slice_get plan.groups at ≡ Some group → IsTrue (is_small group.bounds)
 small_group plan at group small found = found-passes (λ (g : Group). is_small g.bounds) plan.groups at group small found
+
+-- A change of one item leaves as many.
+pub length_changed : {A : Type 0} (change : A → A) (items : List A) (place : ℕ) → length (changed_at change items place) ≡ length items
+length_changed change [] place = refl
+length_changed change (item ∷ items) zero = refl
+length_changed change (item ∷ items) (suc place) = ap suc (length_changed change items place)
 
 pub ruleset placing = (positioned-subscripts, small_group)

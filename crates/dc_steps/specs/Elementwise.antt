@@ -1,5 +1,5 @@
 -- Whole arrays, element after element. This project's own.
-use Rattle.std.specs.Prelude.{ℕ, ◌-◌, List, [], ◌∷◌, map, ℤ, pos, ◌+ℤ◌}
+use Rattle.std.specs.Prelude.{ℕ, ◌-◌, List, [], ◌∷◌, map, Option, ℤ, pos, ◌+ℤ◌}
 use Rattle.std.specs.List.{range_with_len}
 use Rattle.dc_int.specs.declared.access.ElementId.{ElementId}
 use Rattle.dc_int.specs.declared.kind.Kind.{Kind}
@@ -7,7 +7,11 @@ use Rattle.dc_int.specs.declared.operation.ReduceOp.{ReduceOp}
 use Rattle.dc_int.specs.Kinds.{wrapped}
 use Rattle.dc_int.specs.Reductions.{truth, number_of_truth, conjunction, disjunction, combined}
 use Rattle.dc_code.specs.declared.instr.Folding.{Folding}
-use Rattle.dc_code.specs.Codes.{element}
+use Rattle.dc_code.specs.Codes.{CodeLists, element}
+use Rattle.dc_code.specs.Computation.{give, ◌>>=◌}
+use Rattle.dc_code.specs.Instructions.{folded}
+use Rattle.dc_code.specs.Reaching.{all_read, all_required}
+use Rattle.dc_code.specs.Troubles.{Computing}
 
 -- The elements of a variable from a position on, where it has so many.
 abbrev pub elements_from : ℕ → ℕ → ℕ → List ElementId
@@ -29,3 +33,14 @@ folded_further Folding.All kind before z = conjunction before z
 abbrev pub folded_from : Folding → Kind → ℤ → List ℤ → ℤ
 folded_from folding kind before [] = before
 folded_from folding kind before (z ∷ zs) = folded_from folding kind (folded_further folding kind before z) zs
+
+-- What is made of elements, which have to be defined, and of the states of slots.
+abbrev pub elements_folded : CodeLists → ℕ → Folding → Kind → List ElementId → Computing ℤ
+elements_folded code line folding kind elements = do
+  zs ← all_read code line elements
+  give (folded folding kind zs)
+
+abbrev pub states_folded : ℕ → Folding → Kind → List (Option ℤ) → Computing ℤ
+states_folded line folding kind states = do
+  zs ← all_required line states
+  give (folded folding kind zs)

@@ -1,3 +1,4 @@
+pub mod Calling
 pub mod Carrying
 pub mod Elementwise
 pub mod Ending

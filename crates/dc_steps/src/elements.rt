@@ -1,6 +1,6 @@
 //! Elements of outside variables.
 
-ghost use Rattle.std.specs.Prelude.{◌≡◌, is_some, option_map};
+ghost use Rattle.std.specs.Prelude.{◌≡◌, slice_get, is_some, option_map};
 ghost use Rattle.dc_int.specs.Sorts.{sort_with, fitted};
 ghost use Rattle.dc_code.specs.OverCells.{over_cells};
 ghost use Rattle.dc_code.specs.Instructions.{contributed_as};
@@ -14,6 +14,13 @@ use dc_code::Code;
 use dc_int::{ElementId, Kind, ReduceOp, Shape, wrap_to};
 use dc_store::Cells;
 use std::alloc::Global;
+
+/// The shape of a variable, where there is such a variable.
+pub(crate) fn shape_numbered(code: &Code, variable: u32) -> Option<Shape>
+    ensures { result ≡ slice_get (code.now).shapes variable }
+{
+    code.shapes().get(variable as usize).copied()
+}
 
 /// The shape of the variable of an element, where there is such an element.
 fn shape_of(code: &Code, element: ElementId) -> Option<Shape>

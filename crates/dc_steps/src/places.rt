@@ -1,6 +1,6 @@
 //! Places, which are read, defined and forgotten.
 
-ghost use Rattle.std.specs.Prelude.{◌≡◌, slice_get, IfSome, IsTrue};
+ghost use Rattle.std.specs.Prelude.{◌≡◌, length, slice_get, IfSome, IsTrue};
 ghost use Rattle.std.specs.Option.{option_copied};
 ghost use Rattle.dc_code.specs.Codes.{is_small, has_small_groups, plan_numbered};
 ghost use Rattle.dc_code.specs.Computation.{give};
@@ -20,7 +20,7 @@ use dc_store::Cells;
 use std::alloc::Global;
 
 /// The plan of a number, where there is one.
-fn plan_numbered(code: &Code, number: u32) -> Option<&Plan>
+pub(crate) fn plan_numbered(code: &Code, number: u32) -> Option<&Plan>
     ensures plan { option_copied result ≡ slice_get (code.now).plans number }
     ensures small { IfSome result (λ found. IsTrue (has_small_groups found.now)) }
 {
@@ -140,6 +140,7 @@ pub fn place_forgotten<M: Cells>(
     ensures forgets { LeavesBoth line result frame.new (M.holds cells.new)
         (over_cells M.shown M.after (M.holds cells.old)
         (place_forgotten code.now line place frame.old)) }
+    ensures units { length frame.new.units ≡ length frame.old.units }
 {
     match place {
         Place::Outer(element) => element_forgotten(alloc, code, cells, element, line),
