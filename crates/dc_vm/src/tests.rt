@@ -43,6 +43,6 @@ fn a_stored_value_is_put(rt: HostRuntime) -> Result<(), Fail> {
     let mut cells = WholeStore::new(&mut store);
     let ended = run(alloc, &code, 0, &mut frame, &mut cells, 10);
     assert_eq!(rt; ended, Ended::Paused { at: 6, turns: 10 });
-    assert_eq!(rt; frame.line(), b"42\n");
+    assert_eq!(rt; *frame.line(), *b"42\n".as_slice());
     Ok(())
 }
