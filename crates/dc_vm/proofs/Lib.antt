@@ -1,4 +1,3 @@
 pub mod Moved
 pub mod Pauses
 pub mod Called
-pub mod Small
