@@ -1,3 +1,4 @@
 pub mod Moved
 pub mod Pauses
 pub mod Called
+pub mod Small

@@ -7,6 +7,8 @@ mod jumps;
 mod next;
 mod running;
 mod stepping;
+#[cfg(test)]
+mod tests;
 mod work;
 
 pub use dc_steps::{Ended, Frame};
