@@ -99,6 +99,7 @@ acts (What.Enter c) = λ code go line at frame turns. refl
 acts What.End = tt
 acts What.Stop = λ code go line at frame turns. refl
 acts What.ErrorStop = tt
+
 -- ---- what is given
 
 abbrev is_given : {A : Type 0} → Computing A → Type 0

@@ -1,12 +1,10 @@
 -- The small code of the test is well formed: it stores 42 in a scalar, reads it back, and puts it on a line.
-use Rattle.std.proofs.Common.{◌≡◌, ◌<◌, ◌≤◌, ℕ, zero, suc, ◌+◌, true, false, List, [], ◌∷◌, ◌-◌, map, length, Option, Some, None, refl, sym, ap, ◌∙◌, subst, arith}
+use Rattle.std.proofs.Common.{◌≡◌, ◌<◌, ◌≤◌, ℕ, zero, suc, ◌+◌, true, false, List, [], ◌∷◌, ◌-◌, map, Option, Some, None, refl, sym, ◌∙◌, subst, arith}
 use Rattle.std.proofs.lemmas.Option.{none-some}
-use Rattle.std.specs.Prelude.{ℤ, pos, slice_get, option_map}
+use Rattle.std.specs.Prelude.{pos, slice_get, option_map}
 use Rattle.dc_int.specs.declared.kind.Kind.{Kind}
-use Rattle.dc_int.specs.declared.variable.Shape.{Shape}
 use Rattle.dc_code.specs.declared.instr.Instr.{Instr}
 use Rattle.dc_code.specs.declared.instr.What.{What}
-use Rattle.dc_code.specs.declared.plan.Plan.{Plan}
 use Rattle.dc_code.specs.Codes.{CodeLists}
 use Rattle.dc_code.specs.StackSorts.{Sorts, number, in_variable, sorts_after}
 use Rattle.dc_code.specs.WellFormed.{Part, main, parts, PlanFits, may_stand, may_change, changes, contributes, MayContribute, goes_on, target_of, ends_part, end_of, Stands, IsWellFormed}
@@ -76,15 +74,28 @@ StandAll at [] = Unit {0}
 StandAll at (first ∷ rest) = Stands small sorts the_part at first.0 first.1 × StandAll (suc at) rest
 
 all-stand : StandAll 0 leaving
-all-stand =
-    (standing 0 _ _ refl refl refl tt refl (λ on. (omega arith, refl)) (λ e. absurd (cc e)),
-    (standing 1 _ _ refl refl refl tt refl (λ on. (omega arith, refl)) (λ e. absurd (cc e)),
-    (standing 2 _ _ refl refl refl tt refl (λ on. (omega arith, refl)) (λ e. absurd (cc e)),
-    (standing 3 _ _ refl refl refl tt refl (λ on. (omega arith, refl)) (λ e. absurd (cc e)),
-    (standing 4 _ _ refl refl refl tt refl (λ on. (omega arith, refl)) (λ e. absurd (cc e)),
-    (standing 5 _ _ refl refl refl tt refl (λ on. (omega arith, refl)) (λ e. absurd (cc e)),
-    (standing 6 _ _ refl refl refl tt refl (λ on. (omega arith, refl)) (λ e. absurd (cc e)),
-    (standing 7 _ _ refl refl refl tt refl (λ on. absurd (cc on)) (λ e. refl), tt))))))))
+all-stand = (
+  standing 0 _ _ refl refl refl tt refl (λ on. (omega arith, refl)) (λ e. absurd (cc e)),
+  (
+    standing 1 _ _ refl refl refl tt refl (λ on. (omega arith, refl)) (λ e. absurd (cc e)),
+    (
+      standing 2 _ _ refl refl refl tt refl (λ on. (omega arith, refl)) (λ e. absurd (cc e)),
+      (
+        standing 3 _ _ refl refl refl tt refl (λ on. (omega arith, refl)) (λ e. absurd (cc e)),
+        (
+          standing 4 _ _ refl refl refl tt refl (λ on. (omega arith, refl)) (λ e. absurd (cc e)),
+          (
+            standing 5 _ _ refl refl refl tt refl (λ on. (omega arith, refl)) (λ e. absurd (cc e)),
+            (
+              standing 6 _ _ refl refl refl tt refl (λ on. (omega arith, refl)) (λ e. absurd (cc e)),
+              (standing 7 _ _ refl refl refl tt refl (λ on. absurd (cc on)) (λ e. refl), tt),
+            ),
+          ),
+        ),
+      ),
+    ),
+  ),
+)
 
 -- one of them
 stands-there : (start : ℕ) (items : List (Instr × Sorts)) → StandAll start items → (n : ℕ) (instr : Instr)
@@ -116,6 +127,6 @@ small_formed = record {
   sorts = sorts;
   beginning = only-part (λ part. sorts part.start ≡ []) refl;
   stands = only-part
-  (λ part. (at : ℕ) (instr : Instr) → part.start ≤ at → at < end_of small part.start → slice_get small.instructions at ≡ Some instr → (after : Sorts) × Stands small sorts part at instr after)
-  (λ at instr from to found. let one = stands-there 0 leaving all-stand at instr found in let there : 0 + at ≡ at = omega arith in (one.0, subst (λ n. Stands small sorts the_part n instr one.0) there one.1));
+      (λ part. (at : ℕ) (instr : Instr) → part.start ≤ at → at < end_of small part.start → slice_get small.instructions at ≡ Some instr → (after : Sorts) × Stands small sorts part at instr after)
+      (λ at instr from to found. let one = stands-there 0 leaving all-stand at instr found in let there : 0 + at ≡ at = omega arith in (one.0, subst (λ n. Stands small sorts the_part n instr one.0) there one.1));
 }

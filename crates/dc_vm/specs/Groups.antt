@@ -1,8 +1,8 @@
 -- What instructions work on, and the work of those behind which the next place comes. This project's own.
-use Rattle.std.specs.Prelude.{ℕ, not, slice_get}
+use Rattle.std.specs.Prelude.{ℕ, slice_get}
 use Rattle.dc_int.specs.declared.kind.Kind.{Kind}
 use Rattle.dc_int.specs.Kinds.{wrapped}
-use Rattle.dc_int.specs.Reductions.{truth, number_of_truth, conjunction, disjunction, equivalence, non_equivalence}
+use Rattle.dc_int.specs.Reductions.{number_of_truth, conjunction, disjunction, equivalence, non_equivalence}
 use Rattle.dc_int.specs.Sorts.{whole, logical}
 use Rattle.dc_code.specs.declared.instr.What.{What}
 use Rattle.dc_code.specs.Codes.{CodeLists}

@@ -1,6 +1,5 @@
 -- How instructions move to other places, and where a pause goes on. This project's own.
 use Rattle.std.specs.Prelude.{◌≡◌, ℕ, suc, ◌<◌, if◌then◌else◌, Result, Ok, Err}
-use Rattle.dc_int.specs.declared.fault.FaultKind.{FaultKind}
 use Rattle.dc_int.specs.declared.fault.Why.{Why}
 use Rattle.dc_int.specs.Reductions.{truth}
 use Rattle.dc_code.specs.Codes.{CodeLists}

@@ -26,13 +26,7 @@ pub(crate) fn ahead(target: u32, at: usize, turns: u64, line: u32) -> Next
 }
 
 /// Takes a truth off, and goes to a later place where it is false.
-pub(crate) fn ahead_unless(
-    frame: &mut Frame,
-    target: u32,
-    at: usize,
-    turns: u64,
-    line: u32,
-) -> Next
+pub(crate) fn ahead_unless(frame: &mut Frame, target: u32, at: usize, turns: u64, line: u32) -> Next
     requires { at < 4294967296 }
     ensures { Moves result frame.new
         (λ (go : Going). jumped_unless go line target at frame.old turns) }

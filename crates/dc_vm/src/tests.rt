@@ -13,22 +13,53 @@ use std::test::Fail;
 fn a_stored_value_is_put(rt: HostRuntime) -> Result<(), Fail> {
     let alloc = rt.alloc();
     let whats = [
-        Instr { line: 1, what: What::Const { k: Kind::K4, n: 42 } },
-        Instr { line: 1, what: What::Subscript { v: 0 } },
-        Instr { line: 1, what: What::Store { v: 0 } },
-        Instr { line: 2, what: What::Subscript { v: 0 } },
-        Instr { line: 2, what: What::Load { v: 0 } },
-        Instr { line: 2, what: What::PutNumber },
-        Instr { line: 2, what: What::PutEnd },
-        Instr { line: 3, what: What::End },
+        Instr {
+            line: 1,
+            what: What::Const { k: Kind::K4, n: 42 },
+        },
+        Instr {
+            line: 1,
+            what: What::Subscript { v: 0 },
+        },
+        Instr {
+            line: 1,
+            what: What::Store { v: 0 },
+        },
+        Instr {
+            line: 2,
+            what: What::Subscript { v: 0 },
+        },
+        Instr {
+            line: 2,
+            what: What::Load { v: 0 },
+        },
+        Instr {
+            line: 2,
+            what: What::PutNumber,
+        },
+        Instr {
+            line: 2,
+            what: What::PutEnd,
+        },
+        Instr {
+            line: 3,
+            what: What::End,
+        },
     ];
     let instructions = DcList::from_vec(Vec::from_slice(alloc, &whats)?);
     let mut shapes = DcList::new(alloc);
-    shapes.push(Shape { kind: Kind::K4, logical: false, elements: 1 })?;
+    shapes.push(Shape {
+        kind: Kind::K4,
+        logical: false,
+        elements: 1,
+    })?;
     let mut bounds = DcList::new(alloc);
     bounds.push(DcList::new(alloc))?;
     let mut plans = DcList::new(alloc);
-    plans.push(Plan { dummies: DcList::new(alloc), groups: DcList::new(alloc) })?;
+    plans.push(Plan {
+        dummies: DcList::new(alloc),
+        groups: DcList::new(alloc),
+    })?;
     let code = Code::new(
         instructions,
         DcList::new(alloc),
@@ -43,6 +74,6 @@ fn a_stored_value_is_put(rt: HostRuntime) -> Result<(), Fail> {
     let mut cells = WholeStore::new(&mut store);
     let ended = run(alloc, &code, 0, &mut frame, &mut cells, 10);
     assert_eq!(rt; ended, Ended::Paused { at: 6, turns: 10 });
-    assert_eq!(rt; frame.line(), b"42\n");
+    assert_eq!(rt; *frame.line(), *b"42\n".as_slice());
     Ok(())
 }

@@ -1,4 +1,4 @@
-use Rattle.std.proofs.Common.{◌≡◌, add-one, subst}
+use Rattle.std.proofs.Common.{add-one, subst}
 use Rattle.dc_code.specs.Computation.{sequence}
 use Rattle.dc_code.specs.Instructions.{Going, ahead, spent, returned}
 use Rattle.dc_vm.specs.Moving.{Moves}

@@ -1,4 +1,4 @@
-use Rattle.std.proofs.Common.{◌≡◌, ◌<◌, ◌≤◌, Some, None, slice_get, ap, ◌∙◌, arith}
+use Rattle.std.proofs.Common.{◌≡◌, ◌≤◌, Some, None, slice_get, ap, ◌∙◌, arith}
 use Rattle.dc_code.specs.Machine.{bound}
 use Rattle.dc_code.specs.OverCells.{over_cells}
 use Rattle.dc_steps.proofs.Onward.{lower, goes_on, ends, past_the_end}
@@ -14,9 +14,10 @@ pub loop-instr-preserved : goal.loop-instr-preserved
 loop-instr-preserved g c =
     let found : slice_get c.args.code.now.instructions c.loop-instr.at ≡ Some c.in-Some.instr = cc (c.in-Some.ensures, c.instructions-instructions.ensures) in
     let less = lower c.args.code.now g.M.Cells.shown g.M.Cells.after c.loop-instr.at c.loop-instr.frame c.loop-instr.left c.in-Some.instr (g.M.Cells.holds c.loop-instr.cells) c.in-On.to c.step.new.frame c.in-On.turns (g.M.Cells.holds c.step.new.cells) found c.in-On.ensures.carries in
-    let within : bound c.args.code.now c.in-On.to c.step.new.frame c.in-On.turns ≤ bound c.args.code.now c.args.entry c.args.frame.now c.args.turns = omega (arith, less, c.loop-instr.invariant.1.1.1) in
-    (c.loop-instr.invariant.0 ∙ goes_on c.args.code.now g.M.Cells.shown g.M.Cells.after c.loop-instr.at c.loop-instr.frame c.loop-instr.left c.in-Some.instr (g.M.Cells.holds c.loop-instr.cells) c.in-On.to c.step.new.frame c.in-On.turns (g.M.Cells.holds c.step.new.cells) found c.in-On.ensures.carries,
-    (c.in-On.ensures.ready, (c.instructions-instructions.ensures, within)))
+    let within : bound c.args.code.now c.in-On.to c.step.new.frame c.in-On.turns ≤ bound c.args.code.now c.args.entry c.args.frame.now c.args.turns = omega (arith, less, c.loop-instr.invariant.1.1.1) in (
+      c.loop-instr.invariant.0 ∙ goes_on c.args.code.now g.M.Cells.shown g.M.Cells.after c.loop-instr.at c.loop-instr.frame c.loop-instr.left c.in-Some.instr (g.M.Cells.holds c.loop-instr.cells) c.in-On.to c.step.new.frame c.in-On.turns (g.M.Cells.holds c.step.new.cells) found c.in-On.ensures.carries,
+      (c.in-On.ensures.ready, (c.instructions-instructions.ensures, within)),
+    )
 
 pub returns-in-Over-clause-ends : goal.returns-in-Over-clause-ends
 returns-in-Over-clause-ends g c =
