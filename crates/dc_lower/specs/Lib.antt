@@ -1,3 +1,4 @@
+pub mod Agreeing
 pub mod Assigning
 pub mod Blocks
 pub mod Carrying
