@@ -1,8 +1,7 @@
 -- The instructions of a block carry it out, statement by statement.
-use Rattle.std.proofs.Common.{◌≡◌, ◌<◌, ℕ, zero, suc, ◌+◌, Bool, true, List, [], ◌∷◌, ◌++◌, length, Some, refl, sym, ap, ◌∙◌, subst, arith}
+use Rattle.std.proofs.Common.{◌≡◌, ◌<◌, ℕ, suc, ◌+◌, Bool, true, List, [], ◌∷◌, ◌++◌, length, Some, refl, sym, ap, ◌∙◌, subst, arith}
 use Rattle.std.proofs.lemmas.Bool.{false≢true}
-use Rattle.std.proofs.lemmas.Option.{none-some, same_Some}
-use Rattle.std.specs.Prelude.{min, slice_get}
+use Rattle.std.specs.Prelude.{min}
 use Rattle.dc_code.specs.declared.instr.Instr.{Instr}
 use Rattle.dc_code.specs.declared.instr.What.{What}
 use Rattle.dc_code.specs.declared.plan.Group.{Group}
@@ -32,7 +31,8 @@ use Rattle.dc_lower.specs.Printing.{TextsStand}
 use Rattle.dc_lower.proofs.Assigning.{assignment-law}
 use Rattle.dc_lower.proofs.Filling.{filling-law}
 use Rattle.dc_lower.proofs.Kept.{same-alike, alike-names, alike-kept, alike-lineless}
-use Rattle.dc_lower.proofs.Operators.{both-true, plus-one, plus-none}
+use Rattle.dc_lower.proofs.Facts.{both-true}
+use Rattle.dc_lower.proofs.Operators.{plus-one, plus-none}
 use Rattle.dc_lower.proofs.Going.{GoesAs, blank_frame, leaving_turns, leaving-goes, machine-step, turns_left}
 use Rattle.dc_lower.proofs.Placing.{get-left, get-right, length-both, stand-first, stepped, instrs-left, instrs-right, lined-stand}
 use Rattle.dc_lower.proofs.Printing.{texts-left, texts-right, printing-law}

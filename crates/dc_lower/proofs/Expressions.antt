@@ -38,7 +38,8 @@ use Rattle.dc_meaning.specs.Values.{Callee, value, values, first_value, refer_va
 use Rattle.dc_code.proofs.Sequences.{sequence-then}
 use Rattle.dc_lower.proofs.Going.{GoesAs}
 use Rattle.dc_lower.proofs.Placing.{stand-left, stand-right, stand-rest, stepped, length-both}
-use Rattle.dc_lower.proofs.Operators.{all_pushed, pushed-names, Law, number-law, both-true, entity-law, plus-none, arith-law, arith-one-law, gives-law, joined-law, led-law}
+use Rattle.dc_lower.proofs.Facts.{both-true}
+use Rattle.dc_lower.proofs.Operators.{all_pushed, pushed-names, Law, number-law, entity-law, plus-none, arith-law, arith-one-law, gives-law, joined-law, led-law}
 use Rattle.dc_lower.proofs.Wholes.{fold-law, fold-slot-law}
 
 -- ---- functions of the language

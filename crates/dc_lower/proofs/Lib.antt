@@ -2,6 +2,7 @@ pub mod Assigning
 pub mod Blocks
 pub mod Converting
 pub mod Expressions
+pub mod Facts
 pub mod Filling
 pub mod Going
 pub mod HeaderCodes
@@ -17,6 +18,8 @@ pub mod PartLaws
 pub mod PartPlaces
 pub mod Placing
 pub mod Printing
+pub mod Straight
+pub mod StraightCodes
 pub mod Subscripts
 pub mod WholeExamples
 pub mod Wholes

@@ -5,7 +5,7 @@ use Rattle.std.proofs.lemmas.Option.{none-some, same_Some}
 use Rattle.std.specs.Prelude.{nat_eq, flat_map, slice_get}
 use Rattle.dc_code.specs.declared.instr.Instr.{Instr}
 use Rattle.dc_code.specs.declared.instr.What.{What}
-use Rattle.dc_code.specs.Codes.{CodeLists, starts_of_loop, place_among}
+use Rattle.dc_code.specs.Codes.{starts_of_loop, place_among}
 use Rattle.dc_meaning.specs.Concurrent.{Concurrent, Surroundings}
 use Rattle.dc_lower.specs.Blocks.{lined}
 use Rattle.dc_lower.specs.Lowered.{header_code, body_code, loop_code, loops_code, no_slots, body_plan, plans_of_loops, construct_at, constructs_from}
