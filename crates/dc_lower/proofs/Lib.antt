@@ -18,6 +18,8 @@ pub mod PartLaws
 pub mod PartPlaces
 pub mod Placing
 pub mod Printing
+pub mod RunsOfNames
+pub mod RunsOfValues
 pub mod Straight
 pub mod StraightCodes
 pub mod Subscripts
