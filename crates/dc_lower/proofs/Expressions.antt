@@ -38,7 +38,7 @@ use Rattle.dc_meaning.specs.Values.{Callee, value, values, first_value, refer_va
 use Rattle.dc_code.proofs.Sequences.{sequence-then}
 use Rattle.dc_lower.proofs.Going.{GoesAs}
 use Rattle.dc_lower.proofs.Placing.{stand-left, stand-right, stand-rest, stepped, length-both}
-use Rattle.dc_lower.proofs.Facts.{both-true}
+use Rattle.dc_lower.proofs.Facts.{both-true, takes-two}
 use Rattle.dc_lower.proofs.Operators.{all_pushed, pushed-names, Law, number-law, entity-law, plus-none, arith-law, arith-one-law, gives-law, joined-law, led-law}
 use Rattle.dc_lower.proofs.Wholes.{fold-law, fold-slot-law}
 
@@ -420,32 +420,6 @@ chosen-step code go goes scope call line at frame state rest op sort a b so stan
     ∙ ap (λ outcome. sequence (sequence (settled line outcome) (λ z. give (pushed (Item.Value z) frame))) (λ left. go (suc at) left state.turns)) w.1
     ∙ later w.0
     ∙ rw w.1 refl
-  where
-    takes-two : (op : Op) → chooses op ≡ true → takes_one op ≡ false
-    takes-two Op.Min so = refl
-    takes-two Op.Max so = refl
-    takes-two Op.Add so = absurd (false≢true so)
-    takes-two Op.Sub so = absurd (false≢true so)
-    takes-two Op.Mul so = absurd (false≢true so)
-    takes-two Op.Neg so = absurd (false≢true so)
-    takes-two Op.Abs so = absurd (false≢true so)
-    takes-two Op.Div so = absurd (false≢true so)
-    takes-two Op.Mod so = absurd (false≢true so)
-    takes-two Op.Modulo so = absurd (false≢true so)
-    takes-two Op.Pow so = absurd (false≢true so)
-    takes-two Op.Sign so = absurd (false≢true so)
-    takes-two Op.Dim so = absurd (false≢true so)
-    takes-two Op.Iand so = absurd (false≢true so)
-    takes-two Op.Ior so = absurd (false≢true so)
-    takes-two Op.Ieor so = absurd (false≢true so)
-    takes-two Op.Not so = absurd (false≢true so)
-    takes-two Op.Ishft so = absurd (false≢true so)
-    takes-two Op.Shiftl so = absurd (false≢true so)
-    takes-two Op.Shiftr so = absurd (false≢true so)
-    takes-two Op.Shifta so = absurd (false≢true so)
-    takes-two Op.Ibset so = absurd (false≢true so)
-    takes-two Op.Ibclr so = absurd (false≢true so)
-    takes-two Op.Popcnt so = absurd (false≢true so)
 
 mutual
   pub value-law : (code : CodeLists) (go : Going) (goes : GoesAs code go) (scope : Scope) (call : Callee) (line at : ℕ) (frame : Frame) (state : State) (tree : Tree) → HaveNames code scope frame state

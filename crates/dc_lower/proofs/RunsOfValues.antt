@@ -27,7 +27,7 @@ use Rattle.dc_meaning.specs.Places.{bounds_of_entity, low_of, high_of}
 use Rattle.dc_meaning.specs.Values.{array_named, about_array, dimension_named}
 use Rattle.dc_lower.specs.Expressions.{about, entity_code, led_code, joined_code, folding_code, operation_code, function_code, referred_code, value_code, values_code, first_code, chosen_code, further_code, is_number, is_usable, are_usable, first_usable, is_whole_variable, gives_value, count_of, chooses, takes_so, refers_so}
 use Rattle.dc_lower.specs.Typed.{item_of, is_logical, is_no_wider, operates_on, chooses_among, merges, takes_sorts, refers_typed, is_typed, are_typed, first_typed}
-use Rattle.dc_lower.proofs.Facts.{both-true}
+use Rattle.dc_lower.proofs.Facts.{both-true, takes-two}
 use Rattle.dc_lower.proofs.Straight.{Ground, Runs, runs-one, runs-both, runs-to}
 use Rattle.dc_lower.proofs.RunsOfNames.{Fits, stacked, const-runs, truth-runs, wrap-runs, entity-runs, fold-runs, kind-serves, arith-one-runs, arith-two-runs, led-runs, joined-runs}
 
@@ -230,11 +230,6 @@ refer-runs ground scope fits text args runs nothing (Some function) below e so t
 refer-runs ground scope fits text args runs found function below e so typed = declared-runs ground scope fits text args runs found below e so typed
 
 -- ---- expressions
-
-takes-two : (op : Op) → chooses op ≡ true → takes_one op ≡ false
-takes-two Op.Min so = refl
-takes-two Op.Max so = refl
-takes-two op so = absurd (false≢true so)
 
 -- One step of MIN or MAX.
 least-step : (ground : Ground) (op : Op) (k : Kind) (sort : Sort) (below : Sorts) → chooses op ≡ true → is_no_wider (whole k) sort ≡ true
