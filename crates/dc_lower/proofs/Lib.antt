@@ -19,7 +19,9 @@ pub mod PartPlaces
 pub mod Placing
 pub mod Printing
 pub mod RunsOfNames
+pub mod RunsOfStatements
 pub mod RunsOfValues
+pub mod Standing
 pub mod Straight
 pub mod StraightCodes
 pub mod Subscripts

@@ -1,12 +1,12 @@
 -- The sorts that the instructions of names and operators leave.
-use Rattle.std.proofs.Common.{◌≡◌, ℕ, zero, suc, ◌+◌, Bool, true, false, ◌&&◌, ◌||◌, List, [], ◌∷◌, ◌++◌, length, Option, Some, None, refl, sym, ap, ◌∙◌, subst, arith}
-use Rattle.std.specs.Prelude.{ℤ, pos, nat_eq, nat_le, nat_lt, int_le, option_map, option_and_then, slice_get}
+use Rattle.std.proofs.Common.{◌≡◌, ℕ, suc, ◌+◌, Bool, true, false, ◌||◌, List, [], ◌∷◌, length, Option, Some, None, refl, sym, ap, ◌∙◌, subst, arith}
+use Rattle.std.specs.Prelude.{ℤ, nat_eq, nat_le, option_map, option_and_then}
 use Rattle.std.specs.List.{list_all}
 use Rattle.std.proofs.lemmas.Bool.{false≢true, cond-true, eqb-true, eq-eqb}
 use Rattle.dc_int.specs.declared.kind.Kind.{Kind}
 use Rattle.dc_int.specs.declared.operation.Op.{Op}
 use Rattle.dc_int.specs.declared.variable.Shape.{Shape}
-use Rattle.dc_int.specs.Kinds.{bits_of, is_of_kind, least_of}
+use Rattle.dc_int.specs.Kinds.{bits_of, is_of_kind}
 use Rattle.dc_int.specs.Operations.{takes_place}
 use Rattle.dc_int.specs.Reductions.{truth}
 use Rattle.dc_int.specs.Sorts.{Sort, whole, logical, sort_with}
@@ -15,8 +15,6 @@ use Rattle.dc_code.specs.declared.instr.Folding.{Folding}
 use Rattle.dc_code.specs.declared.instr.Relation.{Relation}
 use Rattle.dc_code.specs.declared.instr.What.{What}
 use Rattle.dc_code.specs.declared.plan.Group.{Group}
-use Rattle.dc_code.specs.declared.plan.Plan.{Plan}
-use Rattle.dc_code.specs.Codes.{CodeLists}
 use Rattle.dc_code.specs.Instructions.{takes_one}
 use Rattle.dc_code.specs.StackSorts as items
 use Rattle.dc_code.specs.StackSorts.{ItemSort, a_truth, in_variable, in_group, Sorts, value_sort, variable_sort, group_sort, rank, group_rank, serves, without_sort, without_numbers, with_top, exchanged, positioned_sorts, of_numbers, folding_sort}
@@ -25,8 +23,8 @@ use Rattle.dc_tree.specs.Entities.{Entity, outside, slots, constant, Scope, enti
 use Rattle.dc_tree.specs.Statements.{Name}
 use Rattle.dc_tree.specs.Typing.{wider, joined, sort_joined_by, sort_led_by, sort_of_entity}
 use Rattle.dc_lower.specs.Expressions.{constant_code, entity_code, folding_code, led_code, joined_code, gives_value, is_whole_variable, is_number}
-use Rattle.dc_lower.specs.Typed.{item_of, is_logical, leads, joins, fits_sort, FitNames}
-use Rattle.dc_lower.proofs.Straight.{Ground, Runs, runs-one, runs-both, runs-to}
+use Rattle.dc_lower.specs.Typed.{item_of, leads, joins, fits_sort, FitNames}
+use Rattle.dc_lower.proofs.Straight.{Ground, Runs, runs-one, runs-both}
 
 -- ---- names in a code
 

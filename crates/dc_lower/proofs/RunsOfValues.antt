@@ -1,6 +1,6 @@
 -- The instructions of an expression leave a value of its sort.
 use Rattle.std.proofs.Common.{◌≡◌, ℕ, suc, Bool, true, false, ◌&&◌, ◌||◌, List, [], ◌∷◌, ◌++◌, length, Option, Some, None, refl, sym, ap, ◌∙◌, subst}
-use Rattle.std.specs.Prelude.{ℤ, pos, ◌==◌, nat_eq, nat_le, nat_lt, int_le, cond, if◌then◌else◌}
+use Rattle.std.specs.Prelude.{ℤ, pos, ◌==◌, nat_eq, nat_le, nat_lt, int_le, if◌then◌else◌}
 use Rattle.std.specs.List.{list_all}
 use Rattle.std.proofs.lemmas.Bool.{false≢true, cond-true, cond_both, or_right}
 use Rattle.dc_int.specs.declared.kind.Kind.{Kind}
@@ -15,7 +15,7 @@ use Rattle.dc_code.specs.declared.instr.What.{What}
 use Rattle.dc_code.specs.Instructions.{takes_one}
 use Rattle.dc_code.specs.StackSorts as items
 use Rattle.dc_code.specs.StackSorts.{ItemSort, a_truth, Sorts, folding_sort}
-use Rattle.dc_tree.specs.Entities.{Entity, outside, nothing, Scope, entity}
+use Rattle.dc_tree.specs.Entities.{Entity, nothing, Scope, entity}
 use Rattle.dc_tree.specs.Intrinsics.{Intrinsic, operation, chosen, merge, converted, huge, bit_size, kind, size, lower_bound, upper_bound, total, count, any, all, intrinsic}
 use Rattle.dc_tree.specs.Literals.{number_of}
 use Rattle.dc_tree.specs.Operating.{about_kind}
