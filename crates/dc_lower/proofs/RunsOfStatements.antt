@@ -1,7 +1,6 @@
 -- The instructions of assignments leave nothing on the stack.
-use Rattle.std.proofs.Common.{◌≡◌, ◌≤◌, ◌<◌, ℕ, zero, suc, ◌+◌, ◌*◌, ◌/◌, ◌%◌, Bool, true, false, ◌&&◌, cond, List, [], ◌∷◌, ◌++◌, length, map, Option, Some, None, refl, sym, ap, ◌∙◌, subst, arith}
-use Rattle.std.specs.Prelude.{ℤ, pos, negsuc, ◌+ℤ◌, ◌<ℤ◌, nat_lt, option_map, option_and_then, slice_get}
-use Rattle.std.specs.Int.{int_gap}
+use Rattle.std.proofs.Common.{◌≡◌, ◌≤◌, ◌<◌, ℕ, zero, suc, ◌+◌, ◌/◌, ◌%◌, Bool, true, false, ◌&&◌, cond, List, [], ◌∷◌, ◌++◌, length, map, Option, Some, None, refl, sym, ap, ◌∙◌, subst, arith}
+use Rattle.std.specs.Prelude.{ℤ, pos, ◌+ℤ◌, ◌<ℤ◌, nat_lt, option_map, option_and_then, slice_get}
 use Rattle.std.specs.List.{list_all}
 use Rattle.std.proofs.Math.Nat.{mod-lt, div-lt_iff_lt-mul}
 use Rattle.std.proofs.lemmas.Bool.{false≢true, cond-true, ltb-false, le-leb, eqb-true}
@@ -29,6 +28,7 @@ use Rattle.dc_lower.proofs.Facts.{both-hold, both-true}
 use Rattle.dc_lower.proofs.Straight.{can_stand, Ground, Runs, runs-step, runs-one, runs-both}
 use Rattle.dc_lower.proofs.RunsOfNames.{Fits, stacked, const-runs, wrap-runs, subscript-runs, variable-sort, kind-serves, item-serves, positioned, exchange, position-taken, slot-taken, all-off}
 use Rattle.dc_lower.proofs.RunsOfValues.{value-runs}
+use Rattle.dc_lower.proofs.Subscripts.{below, some_extent, as_many_subscripts}
 
 -- ---- conversions
 
@@ -204,19 +204,9 @@ keeping-runs ground scope fits group sort kept before (tree ∷ trees) below sma
 
 -- ---- the subscripts of an element
 
-nearer : (low end : ℤ) (n : ℕ) → n < int_gap low end → (low +ℤ pos n) <ℤ end
-nearer (pos a) (pos b) n h = omega (arith, ints)
-nearer (pos a) (negsuc b) n h = absurd (omega arith)
-nearer (negsuc a) (pos b) n h = omega (arith, ints)
-nearer (negsuc a) (negsuc b) n h = omega (arith, ints)
-
-some-extent : (size others position : ℕ) → position < size * others → 0 < size
-some-extent zero others position h = let none : zero * others ≡ 0 = omega arith in absurd (omega arith)
-some-extent (suc size) others position h = omega arith
-
 subscript-fits : (low high : ℤ) (n : ℕ) → n < extent (low, high) → is_of_kind Kind.K8 low ≡ true → is_of_kind Kind.K8 high ≡ true → is_of_kind Kind.K8 (low +ℤ pos n) ≡ true
 subscript-fits low high n within first last =
-    let before : (low +ℤ pos n) <ℤ (high +ℤ pos 1) = nearer low (high +ℤ pos 1) n within in
+    let before : (low +ℤ pos n) <ℤ (high +ℤ pos 1) = below low (high +ℤ pos 1) n within in
     let a = is_of_kind-true Kind.K8 low first in
     let b = is_of_kind-true Kind.K8 high last in
     let least = a.0 in
@@ -227,13 +217,9 @@ subscripts-fit : (bounds : Bounds) (at : ℕ) → are_held_bounds bounds ≡ tru
 subscripts-fit [] at held within = refl
 subscripts-fit ((low, high) ∷ bounds) at held within =
     let size : ℕ = extent (low, high) in
-    let some : 0 < size = some-extent size (elements_in bounds) at within in
+    let some : 0 < size = some_extent size (elements_in bounds) at within in
     both-hold (subscript-fits low high (at % size) (mod-lt at some) (both-true (both-true held).0).0 (both-true (both-true held).0).1)
     (subscripts-fit bounds (at / size) (both-true held).1 ((div-lt_iff_lt-mul some).1 (omega (arith, within))))
-
-subscripts-length : (bounds : Bounds) (at : ℕ) → length bounds ≡ length (subscripts_at bounds at)
-subscripts-length [] at = refl
-subscripts-length ((low, high) ∷ bounds) at = ap suc (subscripts-length bounds (at / extent (low, high)))
 
 abbrev eights : List ℤ → List Sort
 eights zs = map (λ z. whole Kind.K8) zs
@@ -259,7 +245,7 @@ element-runs ground scope fits text variable sort bounds e held at below within 
     runs-both ground below (stacked (eights zs) below) (in_variable variable ∷ below) (map (λ z. What.Const Kind.K8 z) zs) (What.Subscript variable ∷ [])
     (consts-runs ground zs below (subscripts-fit bounds at held within))
     (subscript-runs ground scope fits text variable sort bounds e (stacked (eights zs) below) below
-    (all-off (eights zs) (length bounds) below (subscripts-length bounds at ∙ eights-length zs) (eights-numbers zs)))
+    (all-off (eights zs) (length bounds) below (sym (as_many_subscripts bounds at) ∙ eights-length zs) (eights-numbers zs)))
 
 handing-runs : (ground : Ground) (scope : Scope) → Fits ground scope → Changes ground → (text : Name) (variable : ℕ) (sort : Sort) (bounds : Bounds) → entity scope text ≡ outside variable sort bounds
     → are_held_bounds bounds ≡ true → elements_in bounds ≤ 4194304 → (group : ℕ) → IsKept ground group sort → (before count : ℕ) (below : Sorts) → before + count ≤ elements_in bounds
@@ -292,7 +278,7 @@ filling-runs ground scope fits holds changeable text (outside variable sort boun
     let kept = kept-there ground group sort (length trees) there in
     let held = holds.outer text variable sort bounds e in
     let few : elements_in bounds ≤ 4194304 = held.1 in
-    let long : length trees ≡ elements_in bounds = eqb-true (length trees) (elements_in bounds) (both-true so).1 in
+    let long : length trees ≡ elements_in bounds = eqb-true (length trees) (elements_in bounds) (both-true {a = all_usable scope trees} so).1 in
     runs-both ground below below below (keeping_code scope sort group 0 trees) (handing_code variable bounds group 0 (length trees))
     (keeping-runs ground scope fits group sort kept 0 trees below (omega (arith, few, long)) (both-true so).0 typed)
     (handing-runs ground scope fits changeable text variable sort bounds e held.0 few group kept 0 (length trees) below (omega (arith, long)))

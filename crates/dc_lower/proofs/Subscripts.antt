@@ -8,7 +8,7 @@ use Rattle.dc_int.specs.Store.{Bounds, extent, elements_in, offset_in, joined_po
 use Rattle.dc_lower.specs.Subscripts.{subscripts_at}
 
 -- a number that lies less far above the first one than the second does is below the second
-below : (low end : ℤ) (n : ℕ) → n < int_gap low end → (low +ℤ pos n) <ℤ end
+pub below : (low end : ℤ) (n : ℕ) → n < int_gap low end → (low +ℤ pos n) <ℤ end
 below (pos a) (pos b) n h = omega (arith, ints)
 below (pos a) (negsuc b) n h = absurd (omega arith)
 below (negsuc a) (pos b) n h = omega (arith, ints)
@@ -29,7 +29,7 @@ offset_back low high n h =
     let under_test : int_le (low +ℤ pos n) high ≡ true = search (arith, ints) in
     λ i. if above_test i && under_test i then Some (gap_of_more low (low +ℤ pos n) n refl i) else None
 
-some_extent : (size others position : ℕ) → position < size * others → 0 < size
+pub some_extent : (size others position : ℕ) → position < size * others → 0 < size
 some_extent zero others position h = let none : zero * others ≡ 0 = omega arith in absurd (omega arith)
 some_extent (suc size) others position h = omega arith
 
