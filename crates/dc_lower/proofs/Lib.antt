@@ -18,6 +18,7 @@ pub mod PartLaws
 pub mod PartPlaces
 pub mod Placing
 pub mod Printing
+pub mod RunsOfBlocks
 pub mod RunsOfNames
 pub mod RunsOfStatements
 pub mod RunsOfValues

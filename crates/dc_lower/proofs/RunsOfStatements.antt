@@ -1,5 +1,5 @@
 -- The instructions of assignments leave nothing on the stack.
-use Rattle.std.proofs.Common.{◌≡◌, ◌≤◌, ◌<◌, ℕ, zero, suc, ◌+◌, ◌/◌, ◌%◌, Bool, true, false, ◌&&◌, cond, List, [], ◌∷◌, ◌++◌, length, map, Option, Some, None, refl, sym, ap, ◌∙◌, subst, arith}
+use Rattle.std.proofs.Common.{◌≡◌, ◌≤◌, ◌<◌, ℕ, zero, suc, ◌+◌, ◌/◌, ◌%◌, Bool, true, false, ◌&&◌, cond, List, [], ◌∷◌, ◌++◌, length, map, Option, Some, None, refl, sym, ap, ◌∙◌, subst, arith, append_assoc}
 use Rattle.std.specs.Prelude.{ℤ, pos, ◌+ℤ◌, ◌<ℤ◌, nat_lt, option_map, option_and_then, slice_get}
 use Rattle.std.specs.List.{list_all}
 use Rattle.std.proofs.Math.Nat.{mod-lt, div-lt_iff_lt-mul}
@@ -136,17 +136,13 @@ storing-runs ground scope fits changeable text variable sort bounds e (Some tree
     (all-off (sorts_of_trees scope trees) (length bounds) (given ∷ below) (eqb-true (length bounds) (length trees) (both-true so).0 ∙ sorts-length scope trees) (numbers-typed scope trees typed)))
     (store-runs ground scope fits changeable text variable sort bounds e given below fit))
 
-three-parts : (a b c : List What) → (a ++ b) ++ c ≡ a ++ (b ++ c)
-three-parts [] b c = refl
-three-parts (x ∷ a) b c = ap (λ rest. x ∷ rest) (three-parts a b c)
-
 pub assigned-runs : (ground : Ground) (scope : Scope) → Fits ground scope → Changes ground → (text : Name) (found : Entity) (subscripts : Option (List Tree)) (tree : Tree) (below : Sorts)
     → entity scope text ≡ found → (is_usable scope tree && takes_values scope found subscripts) ≡ true
     → (is_typed_value scope (sort_of_entity found) tree && subscripts_typed scope subscripts) ≡ true → Runs ground below (assigned_code scope found subscripts tree) below
 assigned-runs ground scope fits changeable text (outside variable sort bounds) subscripts tree below e so typed =
     let given = converted-runs ground scope fits tree sort below (both-true so).0 (both-true typed).0 in
     subst (λ whats. Runs ground below whats below)
-    (three-parts (value_code scope tree) (conversion_code (sort_of scope tree) sort) (storing_code scope (outside variable sort bounds) subscripts))
+    (append_assoc (value_code scope tree) (conversion_code (sort_of scope tree) sort) (storing_code scope (outside variable sort bounds) subscripts))
     (runs-both ground below (item_of given.0 ∷ below) below (value_code scope tree ++ conversion_code (sort_of scope tree) sort) (storing_code scope (outside variable sort bounds) subscripts)
     (given.1).1
     (storing-runs ground scope fits changeable text variable sort bounds e subscripts (item_of given.0) below (given.1).0 (both-true so).1 (both-true typed).1))
@@ -193,7 +189,7 @@ keeping-runs ground scope fits group sort kept before (tree ∷ trees) below sma
     let given = converted-runs ground scope fits tree sort below (both-true so).0 (both-true typed).0 in
     let others = keeping_code scope sort group (suc before) trees in
     subst (λ whats. Runs ground below whats below)
-    (three-parts (value_code scope tree) (conversion_code (sort_of scope tree) sort) (slot_code group before ++ (What.StoreSlot group ∷ others)))
+    (append_assoc (value_code scope tree) (conversion_code (sort_of scope tree) sort) (slot_code group before ++ (What.StoreSlot group ∷ others)))
     (runs-both ground below (item_of given.0 ∷ below) below (value_code scope tree ++ conversion_code (sort_of scope tree) sort) (slot_code group before ++ (What.StoreSlot group ∷ others))
     (given.1).1
     (runs-both ground (item_of given.0 ∷ below) (in_group group ∷ item_of given.0 ∷ below) below (slot_code group before) (What.StoreSlot group ∷ others)

@@ -37,10 +37,6 @@ found-within [] at within = absurd (omega (arith, within))
 found-within (item ∷ items) zero within = (item, refl)
 found-within (item ∷ items) (suc at) within = found-within items at (omega (arith, within))
 
-pub map-both : {A B : Type 0} (f : A → B) (first second : List A) → map f (first ++ second) ≡ map f first ++ map f second
-map-both f [] second = refl
-map-both f (x ∷ first) second = ap (λ others. f x ∷ others) (map-both f first second)
-
 pub length-map : {A B : Type 0} (f : A → B) (items : List A) → length (map f items) ≡ length items
 length-map f [] = refl
 length-map f (x ∷ items) = ap suc (length-map f items)
