@@ -7,6 +7,8 @@ pub mod Filling
 pub mod Going
 pub mod HeaderCodes
 pub mod Kept
+pub mod KnownNames
+pub mod LaidCodes
 pub mod LoopCodes
 pub mod LoopForms
 pub mod LoopShapes
@@ -22,6 +24,7 @@ pub mod RunsOfBlocks
 pub mod RunsOfNames
 pub mod RunsOfStatements
 pub mod RunsOfValues
+pub mod SimpleLoops
 pub mod Standing
 pub mod Straight
 pub mod StraightCodes

@@ -1,5 +1,5 @@
 -- Parts of lists, and where they stand in a whole list.
-use Rattle.std.proofs.Common.{◌≡◌, ◌<◌, ℕ, zero, suc, ◌+◌, List, [], ◌∷◌, ◌++◌, length, map, Some, refl, ap, ◌∙◌, subst, arith}
+use Rattle.std.proofs.Common.{◌≡◌, ◌<◌, ℕ, zero, suc, ◌+◌, List, [], ◌∷◌, ◌++◌, length, Some, refl, ap, ◌∙◌, subst, arith}
 use Rattle.std.specs.Prelude.{slice_get}
 use Rattle.dc_lower.proofs.Placing.{get-left, get-right}
 
@@ -36,7 +36,3 @@ pub found-within : {A : Type 0} (items : List A) (at : ℕ) → at < length item
 found-within [] at within = absurd (omega (arith, within))
 found-within (item ∷ items) zero within = (item, refl)
 found-within (item ∷ items) (suc at) within = found-within items at (omega (arith, within))
-
-pub length-map : {A B : Type 0} (f : A → B) (items : List A) → length (map f items) ≡ length items
-length-map f [] = refl
-length-map f (x ∷ items) = ap suc (length-map f items)
