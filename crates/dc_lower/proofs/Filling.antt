@@ -38,17 +38,13 @@ use Rattle.dc_lower.proofs.Kept.{Apart, put_slot, put-alike, put-there, put-befo
 use Rattle.dc_lower.proofs.Facts.{both-true}
 use Rattle.dc_lower.proofs.Operators.{all_pushed, taken-all, element-there, plus-one, plus-none, sequence-give}
 use Rattle.dc_lower.proofs.Placing.{length-both, stand-left, stand-right, stand-rest, stepped}
-use Rattle.dc_lower.proofs.Subscripts.{leads_back, as_many_subscripts, counted_from_one, counted_elements}
+use Rattle.dc_lower.proofs.Subscripts.{leads_back, as_many_subscripts, counted_from_one, counted_elements, kept-bounds}
 use Rattle.dc_lower.proofs.Wholes.{outer_place_of, outer-places}
 
 two-on : (at : ℕ) → suc (suc at) ≡ at + 2
 two-on at = omega arith
 
 -- ---- a slot of the group
-
-kept-bounds : (sort : Sort) (count : ℕ) → (kept_group sort count).bounds ≡ (pos 1, pos count) ∷ []
-kept-bounds (whole its_kind) count = refl
-kept-bounds logical count = refl
 
 kept-sort : (sort : Sort) (count : ℕ) → group_sort (Some (kept_group sort count)) ≡ Some sort
 kept-sort (whole its_kind) count = refl

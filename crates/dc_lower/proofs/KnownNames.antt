@@ -125,13 +125,20 @@ in-code code plan own shapes bounds few (outside variable sort declared) known =
     let outer = ((known.1).1).0 in
     let held = ((known.1).1).1 in
     let same : variable ≡ i = (known.1).0 ∙ omega arith in
-    let there : slice_get (outsides_from 0 own) variable ≡ Some outer.0 = ap (slice_get (outsides_from 0 own)) same ∙ (outer.1).0 in
-    ((shape_of outer.0, (
-        ap (λ items. slice_get items variable) shapes ∙ slice_get-map shape_of (outsides_from 0 own) variable ∙ ap (option_map shape_of) there,
-        (sort-of-shape outer.0 ∙ ((outer.1).1).0,
-        ap (λ items. slice_get items variable) bounds ∙ slice_get-map (λ (found : Outside). found.bounds) (outsides_from 0 own) variable
-        ∙ ap (option_map (λ (found : Outside). found.bounds)) there ∙ ap (λ (given : Bounds). Some given) ((outer.1).1).1))),
-    (held.0, omega (arith, held.1, few)))
+    let there : slice_get (outsides_from 0 own) variable ≡ Some outer.0 = ap (slice_get (outsides_from 0 own)) same ∙ (outer.1).0 in (
+      (
+        shape_of outer.0,
+        (
+          ap (λ items. slice_get items variable) shapes ∙ slice_get-map shape_of (outsides_from 0 own) variable ∙ ap (option_map shape_of) there,
+          (
+            sort-of-shape outer.0 ∙ ((outer.1).1).0,
+            ap (λ items. slice_get items variable) bounds ∙ slice_get-map (λ (found : Outside). found.bounds) (outsides_from 0 own) variable
+                ∙ ap (option_map (λ (found : Outside). found.bounds)) there ∙ ap (λ (given : Bounds). Some given) ((outer.1).1).1,
+          ),
+        ),
+      ),
+      (held.0, omega (arith, held.1, few)),
+    )
 in-code code plan own shapes bounds few (slots group sort declared) known = absurd known
 in-code code plan own shapes bounds few (constant sort z) known = known
 in-code code plan own shapes bounds few found known = tt
@@ -172,11 +179,11 @@ pub scope-of-block : (within : Surroundings) (symbols : List Symbol) (number lin
 scope-of-block within symbols number line ranging inside = λ i.
     let locals = no-locals within.outsides i in
     record {
-        names =
-            ((ranging.name, slots 0 (sort_of_entity (entity (main_scope symbols) ranging.name)) [])
-            ∷ (variables_from 1 (map (λ w. w.0) locals) ++ no-reductions within.outsides i))
-            ++ (main_scope symbols).names;
-        groups = 0 + (1 + length locals);
+      names =
+          ((ranging.name, slots 0 (sort_of_entity (entity (main_scope symbols) ranging.name)) [])
+          ∷ (variables_from 1 (map (λ w. w.0) locals) ++ no-reductions within.outsides i))
+          ++ (main_scope symbols).names;
+      groups = 0 + (1 + length locals);
     }
 
 whole-sort : (found : Entity) → is_whole_scalar found ≡ true → whole (kind_of (sort_of_entity found)) ≡ sort_of_entity found

@@ -103,8 +103,8 @@ starts-laid within at [] = refl
 starts-laid within at (loop ∷ loops) =
     let next = at + length (loop_code within loop) in
     let others : flat_map starts_of_loop (constructs_from within next loops)
-            ≡ starts_from (at + length (code_of (header_segment within at loop)) + length (code_of (body_segment within at loop))) (segments_from within next loops) =
-        starts-laid within next loops ∙ ap (λ n. starts_from n (segments_from within next loops)) (loop-long within at loop) in
+    ≡ starts_from (at + length (code_of (header_segment within at loop)) + length (code_of (body_segment within at loop))) (segments_from within next loops) =
+    starts-laid within next loops ∙ ap (λ n. starts_from n (segments_from within next loops)) (loop-long within at loop) in
     λ i. at ∷ (header-long within at loop i ∷ others i)
 
 abbrev part_from : PartOf × (ℕ × Plan) → Part
@@ -119,8 +119,8 @@ parts-laid within at [] = refl
 parts-laid within at (loop ∷ loops) =
     let next = at + length (loop_code within loop) in
     let others : parts_among within next loops
-            ≡ parts_from (at + length (code_of (header_segment within at loop)) + length (code_of (body_segment within at loop))) (segments_from within next loops) =
-        parts-laid within next loops ∙ ap (λ n. parts_from n (segments_from within next loops)) (loop-long within at loop) in
+    ≡ parts_from (at + length (code_of (header_segment within at loop)) + length (code_of (body_segment within at loop))) (segments_from within next loops) =
+    parts-laid within next loops ∙ ap (λ n. parts_from n (segments_from within next loops)) (loop-long within at loop) in
     λ i. part_at at (header_segment within at loop) ∷ (part_at (header-long within at loop i) (body_segment within at loop) ∷ others i)
 
 pub all-starts : (symbols : List Symbol) (source : Source) (within : Surroundings) (loops : List Concurrent)

@@ -4,6 +4,7 @@ pub mod Converting
 pub mod Expressions
 pub mod Facts
 pub mod Filling
+pub mod FittingLists
 pub mod Going
 pub mod HeaderCodes
 pub mod Kept
@@ -29,5 +30,6 @@ pub mod Standing
 pub mod Straight
 pub mod StraightCodes
 pub mod Subscripts
+pub mod WellFormedCodes
 pub mod WholeExamples
 pub mod Wholes

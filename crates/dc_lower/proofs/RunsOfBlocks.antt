@@ -167,7 +167,7 @@ block-runs ground scope fits holds changeable main free_to next free number (and
 block-runs ground scope fits holds changeable true free_to next free number (and_then (loop head inside close) rest) below texts groups few so typed may =
     let count = loops_in (loop head inside close) in
     let there = found-within ground.code.constructs number
-        (one-of (is_concurrent head.says) (loops_in_all inside + loops_in_all rest) number (length ground.code.constructs) (both-true so).0 (omega (arith, few))) in
+    (one-of (is_concurrent head.says) (loops_in_all inside + loops_in_all rest) number (length ground.code.constructs) (both-true so).0 (omega (arith, few))) in
     runs-step ground below below below (What.Enter number) (whats_of (block_code scope (next + 0) (free + 0) (number + count) rest)) ((free_to refl).1 number)
     (λ last. there-runs (slice_get ground.code.constructs number) there.0 below there.1)
     (block-runs ground scope fits holds changeable true free_to (next + 0) (free + 0) (number + count) rest below (second-stand ground.code.texts next [] (texts_of_block rest) texts)

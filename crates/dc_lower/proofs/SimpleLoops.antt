@@ -54,9 +54,10 @@ simple-here : (within : Surroundings) (scope : Scope) (number line : ℕ) (says 
 simple-here within scope number line (statements.concurrent label None (ranging ∷ []) None []) inside built =
     let block = (both-true (both-true built).1).0 in
     let index = both-true (both-true built).0 in
-    let one = simple_loop scope number line ranging inside in
-    (record { number = number; line = line; ranging = ranging; inside = inside; same = refl; scalar = (both-true index.1).0; built = block },
-    subst (AreSimple scope) (sym (no-loops within (block_scope within one) (suc number) inside block)) tt)
+    let one = simple_loop scope number line ranging inside in (
+      record { number = number; line = line; ranging = ranging; inside = inside; same = refl; scalar = (both-true index.1).0; built = block },
+      subst (AreSimple scope) (sym (no-loops within (block_scope within one) (suc number) inside block)) tt,
+    )
 simple-here within scope number line says inside built = absurd (false≢true built)
 
 pub all-simple : (within : Surroundings) (scope : Scope) (number : ℕ) (block : Items) → are_built_items scope block ≡ true → AreSimple scope (loops_of_all within scope number block)

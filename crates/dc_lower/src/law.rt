@@ -12,11 +12,13 @@ ghost use Rattle.std.specs.Prelude.{
   true,
   Some,
   None,
+  IsTrue,
 };
 ghost use Rattle.dc_code.specs.CodeForms.{code_forms};
 ghost use Rattle.dc_code.specs.Codes.{CodeLists};
 ghost use Rattle.dc_code.specs.Computation.{give, sequence};
 ghost use Rattle.dc_code.specs.Machine.{machine, new_frame};
+ghost use Rattle.dc_code.specs.WellFormed.{IsWellFormed};
 ghost use Rattle.dc_tree.specs.declared.symbols.Symbol.{Symbol};
 ghost use Rattle.dc_tree.specs.Blocks.{Items, Source};
 ghost use Rattle.dc_tree.specs.Entities.{Scope, entity};
@@ -45,7 +47,7 @@ ghost use Rattle.dc_lower.specs.Blocks.{
 };
 ghost use Rattle.dc_lower.specs.Carrying.{LeaveValue, CarryOut, CarryOutKeeping, RunPart};
 ghost use Rattle.dc_lower.specs.Expressions.{value_code, is_usable};
-ghost use Rattle.dc_lower.specs.Lowerable.{IsLowerable};
+ghost use Rattle.dc_lower.specs.Lowerable.{IsLowerable, are_held_symbols};
 ghost use Rattle.dc_lower.specs.Lowered.{lowered};
 ghost use Rattle.dc_lower.specs.Printing.{printing_code, texts_of_items, TextsStand, give_items};
 
@@ -126,4 +128,11 @@ pub fn a_code_has_no_other_loops_than_its_program()
         → (turns number : ℕ) → slice_get (program_loops symbols source turns) number ≡ None
         → HasNoIteration (code_forms (lowered symbols source) turns number [])
         × HasNoIteration (program_forms symbols source turns number []) }
+{}
+
+/// The code of a program that breaks no rule is well formed, where the bounds of its variables are
+/// numbers that an instruction holds.
+pub fn the_code_of_a_program_is_well_formed()
+    ensures { (symbols : List Symbol) (source : Source) → IsLowerable symbols source
+        → IsTrue (are_held_symbols symbols) → IsWellFormed (lowered symbols source) }
 {}
