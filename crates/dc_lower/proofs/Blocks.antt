@@ -34,8 +34,9 @@ use Rattle.dc_lower.proofs.Kept.{same-alike, alike-names, alike-kept, alike-line
 use Rattle.dc_lower.proofs.Facts.{both-true}
 use Rattle.dc_lower.proofs.Operators.{plus-one, plus-none}
 use Rattle.dc_lower.proofs.Going.{GoesAs, blank_frame, leaving_turns, leaving-goes, machine-step, turns_left}
-use Rattle.dc_lower.proofs.Placing.{get-left, get-right, length-both, stand-first, stepped, instrs-left, instrs-right, lined-stand}
+use Rattle.dc_lower.proofs.Placing.{get-left, get-right, stand-first, stepped, instrs-left, instrs-right, lined-stand}
 use Rattle.dc_lower.proofs.Printing.{texts-left, texts-right, printing-law}
+use Rattle.std.proofs.lemmas.List.{length-append}
 
 -- ---- where instructions stand
 
@@ -205,7 +206,7 @@ block-law code go goes scope called at next free number frame own turns loops (a
     ∙ block-law code go goes scope called (at + length first) (next + length (texts_of_item (plain line))) (free + length groups) (number + 0) left own turns loops rest
     (stands-rest free groups (groups_of_block scope rest) alike stands)
     (texts-right next (texts_of_item (plain line)) (texts_of_block rest) there) (instrs-right at first second stand) (both-true so).1 alone K
-    (λ behind left. ap (λ place. go place behind left) (there-behind (length first) (length second) (length (first ++ second)) (length-both first second)) ∙ later behind left))
+    (λ behind left. ap (λ place. go place behind left) (there-behind (length first) (length second) (length (first ++ second)) (length-append first second)) ∙ later behind left))
     ∙ sym (sequence-then (plain_line scope called line (inside own turns)) (λ w. behind_item (exec_all scope called (number + 0) rest) w.0 w.1) K)
   where
     there-behind : (l m n : ℕ) → n ≡ l + m → at + l + m ≡ at + n

@@ -12,10 +12,9 @@ use Rattle.dc_tree.specs.Entities.{main_scope}
 use Rattle.dc_meaning.specs.Concurrent.{Concurrent, Surroundings, block_scope}
 use Rattle.dc_lower.specs.Blocks.{lined, block_code}
 use Rattle.dc_lower.specs.Lowered.{limits_code, kind_of_index, header_code, body_code, loop_code, loops_code, no_slots, body_plan, plans_of_loops, construct_at, constructs_from, main_code, main_plan, lowered_with}
-use Rattle.dc_lower.proofs.Placing.{length-both}
 use Rattle.dc_lower.proofs.RunsOfBlocks.{whats_of, whats-lined}
 use Rattle.dc_lower.proofs.StraightCodes.{Segment, code_of, code_of_all, part_at, parts_from, starts_from}
-use Rattle.std.proofs.lemmas.List.{map-append, length-map}
+use Rattle.std.proofs.lemmas.List.{map-append, length-map, length-append}
 
 -- ---- the parts
 
@@ -89,7 +88,7 @@ loop-long : (within : Surroundings) (at : ℕ) (loop : Concurrent)
 loop-long within at loop =
     let a = long-as (header_code loop) (code_of (header_segment within at loop)) (header-whats within at loop) in
     let b = long-as (body_code within loop) (code_of (body_segment within at loop)) (body-whats within at loop) in
-    ap (λ n. at + n) (length-both (header_code loop) (body_code within loop)) ∙ (λ i. at + (a i + b i)) ∙ together at (length (code_of (header_segment within at loop))) (length (code_of (body_segment within at loop)))
+    ap (λ n. at + n) (length-append (header_code loop) (body_code within loop)) ∙ (λ i. at + (a i + b i)) ∙ together at (length (code_of (header_segment within at loop))) (length (code_of (body_segment within at loop)))
   where
     together : (a b c : ℕ) → a + (b + c) ≡ a + b + c
     together a b c = omega arith

@@ -9,7 +9,8 @@ use Rattle.dc_code.specs.Codes.{starts_of_loop, place_among}
 use Rattle.dc_meaning.specs.Concurrent.{Concurrent, Surroundings}
 use Rattle.dc_lower.specs.Blocks.{lined}
 use Rattle.dc_lower.specs.Lowered.{header_code, body_code, loop_code, loops_code, no_slots, body_plan, plans_of_loops, construct_at, constructs_from}
-use Rattle.dc_lower.proofs.Placing.{get-left, get-right, length-both}
+use Rattle.dc_lower.proofs.Placing.{get-left, get-right}
+use Rattle.std.proofs.lemmas.List.{length-append}
 
 -- ---- parts have instructions
 
@@ -18,7 +19,7 @@ lined-some line [] what = omega arith
 lined-some line (one ∷ first) what = omega arith
 
 behind-some : (first second : List Instr) → 0 < length second → 0 < length (first ++ second)
-behind-some first second some = let both = length-both first second in omega (arith, both, some)
+behind-some first second some = let both = length-append first second in omega (arith, both, some)
 
 -- ---- the loops of a code
 
@@ -81,7 +82,7 @@ module _ (within : Surroundings) where
     size = length (loop_code within first)
 
     whole-size : size ≡ length (header_code first) + length (body_code within first)
-    whole-size = length-both (header_code first) (body_code within first)
+    whole-size = length-append (header_code first) (body_code within first)
 
     moved : at + size + behind.before ≡ at + (size + behind.before)
     moved = omega arith

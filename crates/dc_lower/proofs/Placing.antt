@@ -27,10 +27,6 @@ get-right (x ∷ first) second i = ap (slice_get (x ∷ (first ++ second))) (one
     one-before : (n i : ℕ) → suc n + i ≡ suc (n + i)
     one-before n i = omega arith
 
-pub length-both : {A : Type 0} (first second : List A) → length (first ++ second) ≡ length first + length second
-length-both [] second = omega arith
-length-both (x ∷ first) second = ap suc (length-both first second) ∙ omega arith
-
 pub stand-left : {code : CodeLists} {line at : ℕ} (first second : List What) → StandAt code line at (first ++ second) → StandAt code line at first
 stand-left first second stand = record { each = λ i what e. stand.each i what (get-left first second i what e) }
 

@@ -12,7 +12,7 @@ use Rattle.dc_meaning.specs.Execution.{is_concurrent, loops_in_all}
 use Rattle.dc_meaning.specs.Numbering.{concurrent_at, loop_and_inside, loops_of_all}
 use Rattle.dc_lower.proofs.Facts.{both-true}
 use Rattle.dc_lower.proofs.KnownNames.{simple_loop}
-use Rattle.dc_lower.proofs.Placing.{length-both}
+use Rattle.std.proofs.lemmas.List.{length-append}
 
 pub record IsSimple (scope : Scope) (found : Concurrent) : Type 0 where
   pub number : ℕ
@@ -87,5 +87,5 @@ all-counted within scope number (and_then (trees.loop head inside close) rest) b
     let here = loops_at within scope number head inside in
     ap (λ n. n + loops_in_all rest) (count-here within scope number head.line head.says inside (both-true built).0)
     ∙ ap (λ n. length here + n) (all-counted within scope (number + length here) rest (both-true built).1)
-    ∙ sym (length-both here (loops_of_all within scope (number + length here) rest))
+    ∙ sym (length-append here (loops_of_all within scope (number + length here) rest))
 all-counted within scope number (and_then other rest) built = absurd (false≢true built)

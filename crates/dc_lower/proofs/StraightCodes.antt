@@ -12,9 +12,10 @@ use Rattle.dc_code.specs.declared.plan.Plan.{Plan}
 use Rattle.dc_code.specs.Codes.{CodeLists, starts, are_small}
 use Rattle.dc_code.specs.StackSorts.{Sorts, sorts_after}
 use Rattle.dc_code.specs.WellFormed.{PartOf, Part, parts, least_after, end_of, target_of, changes, contributes, ends_part, may_change, may_stand, MayContribute, left_at_end, PlanFits, Stands, bounds_fit, construct_fits, are_different, IsWellFormed}
-use Rattle.dc_lower.proofs.Placing.{get-left, get-right, length-both}
+use Rattle.dc_lower.proofs.Placing.{get-left, get-right}
 use Rattle.dc_lower.proofs.Facts.{both-hold, both-true}
 use Rattle.dc_lower.proofs.Straight.{can_stand, Ground, Runs}
+use Rattle.std.proofs.lemmas.List.{length-append}
 
 -- ---- the parts of a code
 
@@ -89,10 +90,10 @@ trail-length code plan sorts (what ∷ whats) = ap suc (trail-length code plan (
 trails-length : (code : CodeLists) (segments : List Segment) → length (trails code segments) ≡ length (code_of_all segments)
 trails-length code [] = refl
 trails-length code (segment ∷ rest) =
-    length-both (trail code segment.plan [] segment.whats) (trails code rest)
+    length-append (trail code segment.plan [] segment.whats) (trails code rest)
     ∙ ap (λ n. n + length (trails code rest)) (trail-length code segment.plan [] segment.whats)
     ∙ ap (λ n. length (code_of segment) + n) (trails-length code rest)
-    ∙ sym (length-both (code_of segment) (code_of_all rest))
+    ∙ sym (length-append (code_of segment) (code_of_all rest))
 
 -- ---- one instruction of a run
 
@@ -164,7 +165,7 @@ get-first (x ∷ first) second (suc at) within = get-first first second at (omeg
 
 -- Each part has its End.
 code-long : (segment : Segment) → 0 < length (code_of segment)
-code-long segment = omega (arith, length-both segment.whats (What.End ∷ []))
+code-long segment = omega (arith, length-append segment.whats (What.End ∷ []))
 
 -- ---- where a part ends
 
@@ -174,7 +175,7 @@ least-behind (segment ∷ behind) start from end before e =
     cond-true (nat_lt start from) (min from others) others (lt-ltb start from before)
     ∙ ap (λ n. min from n)
     (least-behind behind start (from + length (code_of segment)) end (omega (arith, before))
-    (e ∙ ap (λ n. from + n) (length-both (code_of segment) (code_of_all behind)) ∙ omega arith))
+    (e ∙ ap (λ n. from + n) (length-append (code_of segment) (code_of_all behind)) ∙ omega arith))
     ∙ min-eq_left (omega arith)
   where
     others : ℕ
@@ -186,14 +187,14 @@ least-here [] here behind at start end e f =
     let same : start ≡ at = e ∙ omega arith in
     cond-false (nat_lt start at) (min at others) others (le-ltb start at (omega (arith, same)))
     ∙ least-behind behind start (at + length (code_of here)) end (omega (arith, same, code-long here))
-    (f ∙ ap (λ n. at + n) (length-both (code_of here) (code_of_all behind)) ∙ omega arith)
+    (f ∙ ap (λ n. at + n) (length-append (code_of here) (code_of_all behind)) ∙ omega arith)
     ∙ ap (λ n. n + length (code_of here)) (sym same)
   where
     others : ℕ
     others = least_after start (starts_from (at + length (code_of here)) behind) end
 least-here (segment ∷ before) here behind at start end e f =
-    let first : start ≡ at + length (code_of segment) + length (code_of_all before) = e ∙ ap (λ n. at + n) (length-both (code_of segment) (code_of_all before)) ∙ omega arith in
-    let second : end ≡ at + length (code_of segment) + length (code_of_all (before ++ here ∷ behind)) = f ∙ ap (λ n. at + n) (length-both (code_of segment) (code_of_all (before ++ here ∷ behind))) ∙ omega arith in
+    let first : start ≡ at + length (code_of segment) + length (code_of_all before) = e ∙ ap (λ n. at + n) (length-append (code_of segment) (code_of_all before)) ∙ omega arith in
+    let second : end ≡ at + length (code_of segment) + length (code_of_all (before ++ here ∷ behind)) = f ∙ ap (λ n. at + n) (length-append (code_of segment) (code_of_all (before ++ here ∷ behind))) ∙ omega arith in
     cond-false (nat_lt start at) (min at others) others (le-ltb start at (omega (arith, first)))
     ∙ least-here before here behind (at + length (code_of segment)) start end first second
   where
@@ -367,7 +368,7 @@ placed at (segment ∷ rest) (suc number) part e =
       behind = found.behind;
       whole = ap (λ others. segment ∷ others) found.whole;
       same =
-          ap (λ n. part_at n found.here) (ap (λ n. at + n) (length-both (code_of segment) (code_of_all found.before)) ∙ omega arith)
+          ap (λ n. part_at n found.here) (ap (λ n. at + n) (length-append (code_of segment) (code_of_all found.before)) ∙ omega arith)
           ∙ found.same;
     }
 
@@ -388,7 +389,7 @@ different-starts at (segment ∷ rest) = both-hold
 inside-starts : (at end : ℕ) (segments : List Segment) → end ≡ at + length (code_of_all segments) → list_all (λ start. nat_lt start end) (starts_from at segments) ≡ true
 inside-starts at end [] e = refl
 inside-starts at end (segment ∷ rest) e =
-    let same : end ≡ at + length (code_of segment) + length (code_of_all rest) = e ∙ ap (λ n. at + n) (length-both (code_of segment) (code_of_all rest)) ∙ omega arith in
+    let same : end ≡ at + length (code_of segment) + length (code_of_all rest) = e ∙ ap (λ n. at + n) (length-append (code_of segment) (code_of_all rest)) ∙ omega arith in
     both-hold (lt-ltb at end (omega (arith, same, code-long segment))) (inside-starts (at + length (code_of segment)) end rest same)
 
 -- ---- the code
