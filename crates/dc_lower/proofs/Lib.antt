@@ -30,6 +30,7 @@ pub mod Standing
 pub mod Straight
 pub mod StraightCodes
 pub mod Subscripts
+pub mod TodaysCodes
 pub mod WellFormedCodes
 pub mod WholeExamples
 pub mod Wholes

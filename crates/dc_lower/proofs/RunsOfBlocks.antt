@@ -143,7 +143,7 @@ may-first : (main : Bool) (line : Line) (rest : Items) → may_have main (and_th
 may-first true line rest may = (refl, refl)
 may-first false line rest may = both-true may
 
-one-of : (found : Bool) (inside number all : ℕ) → found ≡ true → number + (cond found 1 0 + inside) ≤ all → number < all
+pub one-of : (found : Bool) (inside number all : ℕ) → found ≡ true → number + (cond found 1 0 + inside) ≤ all → number < all
 one-of true inside number all so few = omega (arith, few)
 one-of false inside number all so few = absurd (false≢true so)
 

@@ -147,7 +147,7 @@ plans-small symbols code within (loop ∷ loops) known are so =
 -- ---- programs
 
 -- What is built.
-record IsBuilt (symbols : List Symbol) (body : Items) : Type 0 where
+pub record IsBuilt (symbols : List Symbol) (body : Items) : Type 0 where
   pub names : list_all is_built_symbol symbols ≡ true
   pub few : elements_of_all symbols ≤ 4194304
   pub items : are_built_items (main_scope symbols) body ≡ true
@@ -160,7 +160,7 @@ built-without symbols head front body contains [] close built =
     record { names = lists.0; few = leb-true (elements_of_all symbols) 4194304 lists.1; items = parts.1 }
 built-without symbols head front body contains (first ∷ rest) close built = absurd (false≢true built)
 
-is-built : (symbols : List Symbol) (source : Source) → is_built symbols source ≡ true → IsBuilt symbols source.body
+pub is-built : (symbols : List Symbol) (source : Source) → is_built symbols source ≡ true → IsBuilt symbols source.body
 is-built symbols source built = built-without symbols source.head source.front source.body source.contains source.procedures source.close built
 
 pub code-is-well-formed : (symbols : List Symbol) (source : Source) → IsLowerable symbols source → IsTrue (are_held_symbols symbols) → IsWellFormed (lowered symbols source)

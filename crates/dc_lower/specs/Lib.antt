@@ -8,4 +8,5 @@ pub mod Lowered
 pub mod Placed
 pub mod Printing
 pub mod Subscripts
+pub mod Today
 pub mod Typed

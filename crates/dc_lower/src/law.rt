@@ -14,6 +14,7 @@ ghost use Rattle.std.specs.Prelude.{
   None,
   IsTrue,
 };
+ghost use Rattle.std.specs.List.{list_all};
 ghost use Rattle.dc_code.specs.CodeForms.{code_forms};
 ghost use Rattle.dc_code.specs.Codes.{CodeLists};
 ghost use Rattle.dc_code.specs.Computation.{give, sequence};
@@ -50,6 +51,7 @@ ghost use Rattle.dc_lower.specs.Expressions.{value_code, is_usable};
 ghost use Rattle.dc_lower.specs.Lowerable.{IsLowerable, are_held_symbols};
 ghost use Rattle.dc_lower.specs.Lowered.{lowered};
 ghost use Rattle.dc_lower.specs.Printing.{printing_code, texts_of_items, TextsStand, give_items};
+ghost use Rattle.dc_lower.specs.Today.{is_of_today};
 
 /// The instructions of an expression leave its value. Its names and functions are used as the rules
 /// of names and types leave them.
@@ -135,4 +137,11 @@ pub fn a_code_has_no_other_loops_than_its_program()
 pub fn the_code_of_a_program_is_well_formed()
     ensures { (symbols : List Symbol) (source : Source) → IsLowerable symbols source
         → IsTrue (are_held_symbols symbols) → IsWellFormed (lowered symbols source) }
+{}
+
+/// The code of a program takes nothing in, doesn't stop, and enters the loops of the program alone.
+pub fn a_code_of_today_enters_its_loops_alone()
+    ensures { (symbols : List Symbol) (source : Source) → IsLowerable symbols source
+        → list_all (λ instr. is_of_today (length (program_loops symbols source 0)) instr.what)
+        (lowered symbols source).instructions ≡ true }
 {}
