@@ -39,7 +39,7 @@ use Rattle.dc_code.proofs.Sequences.{sequence-then}
 use Rattle.dc_lower.proofs.Going.{GoesAs}
 use Rattle.dc_lower.proofs.Placing.{stand-left, stand-right, stand-rest, stepped}
 use Rattle.dc_lower.proofs.Facts.{both-true, takes-two}
-use Rattle.dc_lower.proofs.Operators.{all_pushed, pushed-names, Law, number-law, entity-law, plus-none, arith-law, arith-one-law, gives-law, joined-law, led-law}
+use Rattle.dc_lower.proofs.OperatorLaws.{all_pushed, pushed-names, Law, number-law, entity-law, plus-none, arith-law, arith-one-law, gives-law, joined-law, led-law}
 use Rattle.dc_lower.proofs.Wholes.{fold-law, fold-slot-law}
 use Rattle.std.proofs.lemmas.List.{length-append}
 

@@ -36,7 +36,7 @@ use Rattle.dc_lower.proofs.Expressions.{behind-two, value-law}
 use Rattle.dc_lower.proofs.Going.{GoesAs, blank_frame, leaving_turns, leaving-goes, turns_left}
 use Rattle.dc_lower.proofs.Kept.{Apart, put_slot, put-alike, put-there, put-before, same-alike, alike-then, alike-planned, alike-names, unit-there}
 use Rattle.dc_lower.proofs.Facts.{both-true}
-use Rattle.dc_lower.proofs.Operators.{all_pushed, taken-all, element-there, plus-one, plus-none, sequence-give}
+use Rattle.dc_lower.proofs.OperatorLaws.{all_pushed, taken-all, element-there, plus-one, plus-none, sequence-give}
 use Rattle.dc_lower.proofs.Placing.{stand-left, stand-right, stand-rest, stepped}
 use Rattle.dc_lower.proofs.Subscripts.{leads_back, as_many_subscripts, counted_from_one, counted_elements, kept-bounds}
 use Rattle.dc_lower.proofs.Wholes.{outer_place_of, outer-places}

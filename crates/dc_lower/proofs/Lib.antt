@@ -1,5 +1,5 @@
-pub mod Assigning
-pub mod Blocks
+pub mod AssignmentLaws
+pub mod BlockLaws
 pub mod Converting
 pub mod Expressions
 pub mod Facts
@@ -16,11 +16,12 @@ pub mod LoopShapes
 pub mod LoweringExamples
 pub mod MainNames
 pub mod MainPrograms
-pub mod Operators
+pub mod Making
+pub mod OperatorLaws
+pub mod OutputLaws
 pub mod PartLaws
 pub mod PartPlaces
 pub mod Placing
-pub mod Printing
 pub mod RunsOfBlocks
 pub mod RunsOfNames
 pub mod RunsOfStatements

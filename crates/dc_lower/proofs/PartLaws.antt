@@ -11,7 +11,7 @@ use Rattle.dc_lower.specs.Blocks.{part_code, block_is_lowered, texts_of_block, g
 use Rattle.dc_lower.specs.Carrying.{LeaveValue, RunPart}
 use Rattle.dc_lower.specs.Expressions.{value_code, is_usable}
 use Rattle.dc_lower.specs.Printing.{TextsStand}
-use Rattle.dc_lower.proofs.Blocks.{part-law}
+use Rattle.dc_lower.proofs.BlockLaws.{part-law}
 use Rattle.dc_lower.proofs.Expressions.{value-law}
 use Rattle.dc_lower.proofs.Going.{machine-goes}
 

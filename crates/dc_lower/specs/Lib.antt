@@ -5,8 +5,10 @@ pub mod Carrying
 pub mod Expressions
 pub mod Lowerable
 pub mod Lowered
+pub mod Naming
 pub mod Placed
 pub mod Printing
+pub mod References
 pub mod Subscripts
 pub mod Today
 pub mod Typed

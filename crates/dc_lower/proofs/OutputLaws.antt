@@ -33,7 +33,7 @@ use Rattle.dc_lower.specs.Placed.{StandAt, HaveNames, IsOutside, IsLineless}
 use Rattle.dc_lower.specs.Printing.{put_code, whole_code, item_code, items_code, printing_code, texts_of_item, texts_of_items, TextsStand, is_outside, gives_item, give_items}
 use Rattle.dc_lower.proofs.Expressions.{behind-two, value-law}
 use Rattle.dc_lower.proofs.Facts.{both-true}
-use Rattle.dc_lower.proofs.Operators.{append-assoc, plus-one, plus-none}
+use Rattle.dc_lower.proofs.OperatorLaws.{append-assoc, plus-one, plus-none}
 use Rattle.dc_lower.proofs.Wholes.{outer_place_of, outer-places, reads-law}
 use Rattle.dc_lower.proofs.Going.{GoesAs}
 use Rattle.dc_lower.proofs.Placing.{get-left, get-right, stand-left, stand-right, stepped}

@@ -28,14 +28,14 @@ use Rattle.dc_lower.specs.Blocks.{lined, InstrsStand, deed_code, texts_of_deed, 
 use Rattle.dc_lower.specs.Carrying.{inside}
 use Rattle.dc_lower.specs.Placed.{StandAt, HaveNames, HaveKept, IsLineless, Alike}
 use Rattle.dc_lower.specs.Printing.{TextsStand}
-use Rattle.dc_lower.proofs.Assigning.{assignment-law}
+use Rattle.dc_lower.proofs.AssignmentLaws.{assignment-law}
 use Rattle.dc_lower.proofs.Filling.{filling-law}
 use Rattle.dc_lower.proofs.Kept.{same-alike, alike-names, alike-kept, alike-lineless}
 use Rattle.dc_lower.proofs.Facts.{both-true}
-use Rattle.dc_lower.proofs.Operators.{plus-one, plus-none}
+use Rattle.dc_lower.proofs.OperatorLaws.{plus-one, plus-none}
 use Rattle.dc_lower.proofs.Going.{GoesAs, blank_frame, leaving_turns, leaving-goes, machine-step, turns_left}
 use Rattle.dc_lower.proofs.Placing.{get-left, get-right, stand-first, stepped, instrs-left, instrs-right, lined-stand}
-use Rattle.dc_lower.proofs.Printing.{texts-left, texts-right, printing-law}
+use Rattle.dc_lower.proofs.OutputLaws.{texts-left, texts-right, printing-law}
 use Rattle.std.proofs.lemmas.List.{length-append}
 
 -- ---- where instructions stand
