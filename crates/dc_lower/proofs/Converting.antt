@@ -15,7 +15,7 @@ use Rattle.dc_code.specs.Instructions.{Going}
 use Rattle.dc_lower.specs.Assigning.{conversion_code}
 use Rattle.dc_lower.specs.Placed.{StandAt}
 use Rattle.dc_lower.proofs.Going.{GoesAs}
-use Rattle.dc_lower.proofs.Operators.{plus-one, plus-none}
+use Rattle.dc_lower.proofs.OperatorLaws.{plus-one, plus-none}
 use Rattle.dc_lower.proofs.Placing.{stepped}
 
 wrapped-twice : (its_kind : Kind) (z : ℤ) → wrapped its_kind (wrapped its_kind z) ≡ wrapped its_kind z

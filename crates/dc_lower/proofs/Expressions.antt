@@ -37,9 +37,11 @@ use Rattle.dc_meaning.specs.Values as meanings
 use Rattle.dc_meaning.specs.Values.{Callee, value, values, first_value, refer_value, referred, intrinsic_value, array_named}
 use Rattle.dc_code.proofs.Sequences.{sequence-then}
 use Rattle.dc_lower.proofs.Going.{GoesAs}
-use Rattle.dc_lower.proofs.Placing.{stand-left, stand-right, stand-rest, stepped, length-both}
-use Rattle.dc_lower.proofs.Operators.{all_pushed, pushed-names, Law, number-law, both-true, entity-law, plus-none, arith-law, arith-one-law, gives-law, joined-law, led-law}
+use Rattle.dc_lower.proofs.Placing.{stand-left, stand-right, stand-rest, stepped}
+use Rattle.dc_lower.proofs.Facts.{both-true, takes-two}
+use Rattle.dc_lower.proofs.OperatorLaws.{all_pushed, pushed-names, Law, number-law, entity-law, plus-none, arith-law, arith-one-law, gives-law, joined-law, led-law}
 use Rattle.dc_lower.proofs.Wholes.{fold-law, fold-slot-law}
+use Rattle.std.proofs.lemmas.List.{length-append}
 
 -- ---- functions of the language
 
@@ -251,7 +253,7 @@ function-law code go goes scope call line at frame state args (operation op) nam
     (λ w. sequence (meanings.settled line (called (operation op) sort w.0) w.1) K)
     (λ zs long. operation-law code go goes line (at + length (values_code scope args)) frame state op sort zs (count_of args) (both-true so).0 long
     (stand-right at (values_code scope args) last stand) K
-    (λ z. ap (λ place. go place (pushed (Item.Value z) frame) state.turns) (further-place at (length (values_code scope args)) (length last) ∙ ap (λ n. at + n) (sym (length-both (values_code scope args) last))) ∙ later z))
+    (λ z. ap (λ place. go place (pushed (Item.Value z) frame) state.turns) (further-place at (length (values_code scope args)) (length last) ∙ ap (λ n. at + n) (sym (length-append (values_code scope args) last))) ∙ later z))
     ∙ sym (sequence-then (values scope call line args state) (λ w. meanings.settled line (called (operation op) sort w.0) w.1) K)
 function-law code go goes scope call line at frame state args (chosen op) names law stand so K later =
     law.least op (first_sort (sorts_of scope args)) (both-true so).0 stand (both-true (both-true so).1).1 (both-true (both-true so).1).0 K later
@@ -261,7 +263,7 @@ function-law code go goes scope call line at frame state args merge names law st
     (λ w. sequence (meanings.settled line (called merge sort w.0) w.1) K)
     (λ zs long. merge-law code go goes line (at + length (values_code scope args)) frame state sort zs (long ∙ eqb-true (count_of args) 3 (both-true so).0)
     (stand-right at (values_code scope args) (What.Merge ∷ []) stand) K
-    (λ z. ap (λ place. go place (pushed (Item.Value z) frame) state.turns) (further-place at (length (values_code scope args)) 1 ∙ ap (λ n. at + n) (sym (length-both (values_code scope args) (What.Merge ∷ [])))) ∙ later z))
+    (λ z. ap (λ place. go place (pushed (Item.Value z) frame) state.turns) (further-place at (length (values_code scope args)) 1 ∙ ap (λ n. at + n) (sym (length-append (values_code scope args) (What.Merge ∷ [])))) ∙ later z))
     ∙ sym (sequence-then (values scope call line args state) (λ w. meanings.settled line (called merge sort w.0) w.1) K)
 function-law code go goes scope call line at frame state args converted names law stand so K later =
     let wrap = What.Wrap (kind_converted (constants_of scope args)) in
@@ -269,7 +271,7 @@ function-law code go goes scope call line at frame state args converted names la
     (λ w. K (wrapped (kind_converted (constants_of scope args)) w.0, w.1))
     (λ z. gives-law code go goes line (at + length (first_code scope args)) frame (pushed (Item.Value z) frame) state wrap (wrapped (kind_converted (constants_of scope args)) z)
     (stand-right at (first_code scope args) (wrap ∷ []) stand) refl refl K
-    (λ z. ap (λ place. go place (pushed (Item.Value z) frame) state.turns) (further-place at (length (first_code scope args)) 1 ∙ ap (λ n. at + n) (sym (length-both (first_code scope args) (wrap ∷ [])))) ∙ later z))
+    (λ z. ap (λ place. go place (pushed (Item.Value z) frame) state.turns) (further-place at (length (first_code scope args)) 1 ∙ ap (λ n. at + n) (sym (length-append (first_code scope args) (wrap ∷ [])))) ∙ later z))
     ∙ sym (sequence-then (first_value scope call line args state) (λ w. give (wrapped (kind_converted (constants_of scope args)) w.0, w.1)) K)
 function-law code go goes scope call line at frame state args huge names law stand so K later = number-law code go goes line at frame state _ _ stand K later
 function-law code go goes scope call line at frame state args bit_size names law stand so K later = number-law code go goes line at frame state _ _ stand K later
@@ -300,10 +302,10 @@ three-parts at l m n = omega arith
 pub behind-three : (first second third : List What) (at : ℕ) → at + length first + length second + length third ≡ at + length (first ++ (second ++ third))
 behind-three first second third at =
     three-parts at (length first) (length second) (length third)
-    ∙ ap (λ n. at + (length first + n)) (sym (length-both second third)) ∙ ap (λ n. at + n) (sym (length-both first (second ++ third)))
+    ∙ ap (λ n. at + (length first + n)) (sym (length-append second third)) ∙ ap (λ n. at + n) (sym (length-append first (second ++ third)))
 
 pub behind-two : (first second : List What) (at : ℕ) → at + length first + length second ≡ at + length (first ++ second)
-behind-two first second at = further-place at (length first) (length second) ∙ ap (λ n. at + n) (sym (length-both first second))
+behind-two first second at = further-place at (length first) (length second) ∙ ap (λ n. at + n) (sym (length-append first second))
 
 joined-length : (mark : Mark) (sort : Sort) → length (joined_code mark sort) ≡ 1
 joined-length mark sort = by mark
@@ -419,32 +421,6 @@ chosen-step code go goes scope call line at frame state rest op sort a b so stan
     ∙ ap (λ outcome. sequence (sequence (settled line outcome) (λ z. give (pushed (Item.Value z) frame))) (λ left. go (suc at) left state.turns)) w.1
     ∙ later w.0
     ∙ rw w.1 refl
-  where
-    takes-two : (op : Op) → chooses op ≡ true → takes_one op ≡ false
-    takes-two Op.Min so = refl
-    takes-two Op.Max so = refl
-    takes-two Op.Add so = absurd (false≢true so)
-    takes-two Op.Sub so = absurd (false≢true so)
-    takes-two Op.Mul so = absurd (false≢true so)
-    takes-two Op.Neg so = absurd (false≢true so)
-    takes-two Op.Abs so = absurd (false≢true so)
-    takes-two Op.Div so = absurd (false≢true so)
-    takes-two Op.Mod so = absurd (false≢true so)
-    takes-two Op.Modulo so = absurd (false≢true so)
-    takes-two Op.Pow so = absurd (false≢true so)
-    takes-two Op.Sign so = absurd (false≢true so)
-    takes-two Op.Dim so = absurd (false≢true so)
-    takes-two Op.Iand so = absurd (false≢true so)
-    takes-two Op.Ior so = absurd (false≢true so)
-    takes-two Op.Ieor so = absurd (false≢true so)
-    takes-two Op.Not so = absurd (false≢true so)
-    takes-two Op.Ishft so = absurd (false≢true so)
-    takes-two Op.Shiftl so = absurd (false≢true so)
-    takes-two Op.Shiftr so = absurd (false≢true so)
-    takes-two Op.Shifta so = absurd (false≢true so)
-    takes-two Op.Ibset so = absurd (false≢true so)
-    takes-two Op.Ibclr so = absurd (false≢true so)
-    takes-two Op.Popcnt so = absurd (false≢true so)
 
 mutual
   pub value-law : (code : CodeLists) (go : Going) (goes : GoesAs code go) (scope : Scope) (call : Callee) (line at : ℕ) (frame : Frame) (state : State) (tree : Tree) → HaveNames code scope frame state
@@ -518,7 +494,7 @@ mutual
       (λ w. sequence (sequence (sequence (values scope call line rest w.1) (λ v. give (w.0 ∷ v.0, v.1))) (λ v. meanings.settled line (chosen_from op sort a v.0) v.1)) K)
       (λ b. chosen-step code go goes scope call line (at + length first) frame state rest op sort a b chosen_so (stand-right at first (step ∷ second) stand) K
       (λ z. further-law code go goes scope call line (suc (at + length first)) frame state rest names op sort z chosen_so (stand-rest (at + length first) step second (stand-right at first (step ∷ second) stand)) (both-true so).1 K
-      (λ z. ap (λ place. go place (pushed (Item.Value z) frame) state.turns) (one-later at (length first) (length second) ∙ ap (λ n. at + n) (sym (length-both first (step ∷ second)))) ∙ later z))
+      (λ z. ap (λ place. go place (pushed (Item.Value z) frame) state.turns) (one-later at (length first) (length second) ∙ ap (λ n. at + n) (sym (length-append first (step ∷ second)))) ∙ later z))
       ∙ ap (λ c. sequence c K) (sym (sequence-then (values scope call line rest state) (λ v. give (b ∷ v.0, v.1)) (λ v. meanings.settled line (chosen_from op sort a v.0) v.1))))
       ∙ sym (sequence-then (value scope call line given state) (λ w. sequence (sequence (values scope call line rest w.1) (λ v. give (w.0 ∷ v.0, v.1))) (λ v. meanings.settled line (chosen_from op sort a v.0) v.1)) K)
       ∙ ap (λ c. sequence c K) (sym (sequence-then (value scope call line given state) (λ w. sequence (values scope call line rest w.1) (λ v. give (w.0 ∷ v.0, v.1))) (λ v. meanings.settled line (chosen_from op sort a v.0) v.1)))

@@ -35,19 +35,17 @@ use Rattle.dc_lower.proofs.Converting.{Converts, fitted-twice, conversion-law}
 use Rattle.dc_lower.proofs.Expressions.{behind-two, value-law}
 use Rattle.dc_lower.proofs.Going.{GoesAs, blank_frame, leaving_turns, leaving-goes, turns_left}
 use Rattle.dc_lower.proofs.Kept.{Apart, put_slot, put-alike, put-there, put-before, same-alike, alike-then, alike-planned, alike-names, unit-there}
-use Rattle.dc_lower.proofs.Operators.{all_pushed, taken-all, element-there, both-true, plus-one, plus-none, sequence-give}
-use Rattle.dc_lower.proofs.Placing.{length-both, stand-left, stand-right, stand-rest, stepped}
-use Rattle.dc_lower.proofs.Subscripts.{leads_back, as_many_subscripts, counted_from_one, counted_elements}
+use Rattle.dc_lower.proofs.Facts.{both-true}
+use Rattle.dc_lower.proofs.OperatorLaws.{all_pushed, taken-all, element-there, plus-one, plus-none, sequence-give}
+use Rattle.dc_lower.proofs.Placing.{stand-left, stand-right, stand-rest, stepped}
+use Rattle.dc_lower.proofs.Subscripts.{leads_back, as_many_subscripts, counted_from_one, counted_elements, kept-bounds}
 use Rattle.dc_lower.proofs.Wholes.{outer_place_of, outer-places}
+use Rattle.std.proofs.lemmas.List.{length-append}
 
 two-on : (at : ℕ) → suc (suc at) ≡ at + 2
 two-on at = omega arith
 
 -- ---- a slot of the group
-
-kept-bounds : (sort : Sort) (count : ℕ) → (kept_group sort count).bounds ≡ (pos 1, pos count) ∷ []
-kept-bounds (whole its_kind) count = refl
-kept-bounds logical count = refl
 
 kept-sort : (sort : Sort) (count : ℕ) → group_sort (Some (kept_group sort count)) ≡ Some sort
 kept-sort (whole its_kind) count = refl
@@ -199,7 +197,7 @@ keeping-law code go goes scope call line at frame state sort group before count 
     ∙ sym (sequence-then (value scope call line tree state) (λ w. sequence (all_values scope call line trees w.1) (λ v. give (w.0 ∷ v.0, v.1))) K)
   where
     behind-kept : (first second rest : List What) (n at : ℕ) → length rest ≡ suc (suc (suc n)) → at + length first + length second + 2 + 1 + n ≡ at + length (first ++ (second ++ rest))
-    behind-kept first second rest n at e = omega (arith, e, length-both first (second ++ rest), length-both second rest)
+    behind-kept first second rest n at e = omega (arith, e, length-append first (second ++ rest), length-append second rest)
 
 -- ---- handing on
 
@@ -312,7 +310,7 @@ handing-law code go goes line at frame state variable sort bounds group before c
   where
     behind-handed : (element_at further : List What) (at : ℕ)
         → at + 2 + 1 + length element_at + 1 + length further ≡ at + suc (suc (suc (length (element_at ++ (What.Store variable ∷ further)))))
-    behind-handed element_at further at = omega (arith, length-both element_at (What.Store variable ∷ further))
+    behind-handed element_at further at = omega (arith, length-append element_at (What.Store variable ∷ further))
 
 -- ---- the statement
 

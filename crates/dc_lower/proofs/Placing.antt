@@ -1,11 +1,13 @@
 -- Where parts of instructions stand, and the machine's next step there.
 use Rattle.std.proofs.Common.{◌≡◌, ℕ, true, zero, suc, ◌+◌, List, [], ◌∷◌, ◌++◌, length, Some, refl, ap, ◌∙◌, subst, arith}
-use Rattle.std.proofs.lemmas.Option.{none-some}
+use Rattle.std.proofs.lemmas.Option.{none-some, same_Some}
 use Rattle.std.specs.Prelude.{slice_get}
+use Rattle.dc_code.specs.declared.instr.Instr.{Instr}
 use Rattle.dc_code.specs.declared.instr.What.{What}
 use Rattle.dc_code.specs.Codes.{CodeLists}
 use Rattle.dc_code.specs.Frames.{Frame}
 use Rattle.dc_code.specs.Instructions.{Going, act}
+use Rattle.dc_lower.specs.Blocks.{InstrsStand, lined}
 use Rattle.dc_lower.specs.Placed.{StandAt}
 use Rattle.dc_lower.proofs.Going.{goes_behind, GoesAs}
 
@@ -24,10 +26,6 @@ get-right (x ∷ first) second i = ap (slice_get (x ∷ (first ++ second))) (one
   where
     one-before : (n i : ℕ) → suc n + i ≡ suc (n + i)
     one-before n i = omega arith
-
-pub length-both : {A : Type 0} (first second : List A) → length (first ++ second) ≡ length first + length second
-length-both [] second = omega arith
-length-both (x ∷ first) second = ap suc (length-both first second) ∙ omega arith
 
 pub stand-left : {code : CodeLists} {line at : ℕ} (first second : List What) → StandAt code line at (first ++ second) → StandAt code line at first
 stand-left first second stand = record { each = λ i what e. stand.each i what (get-left first second i what e) }
@@ -54,3 +52,24 @@ stand-first {code} {line} at what rest stand = subst (λ place. slice_get code.i
 pub stepped : {code : CodeLists} {go : Going} {line : ℕ} (goes : GoesAs code go) (at : ℕ) (what : What) (rest : List What) (frame : Frame) (turns : ℕ) → StandAt code line at (what ∷ rest)
     → goes_behind what ≡ true → go at frame turns ≡ act code go line what at frame turns
 stepped {code} {go} {line} goes at what rest frame turns stand behind = goes.each at line what frame turns (stand-first at what rest stand) behind
+
+-- ---- instructions of several lines
+
+pub instrs-left : {code : CodeLists} {at : ℕ} (first second : List Instr) → InstrsStand code at (first ++ second) → InstrsStand code at first
+instrs-left first second stand = record { each = λ i instr e. stand.each i instr (get-left first second i instr e) }
+
+pub instrs-right : {code : CodeLists} (at : ℕ) (first second : List Instr) → InstrsStand code at (first ++ second) → InstrsStand code (at + length first) second
+instrs-right {code} at first second stand =
+    record { each = λ i instr e. subst (λ place. slice_get code.instructions place ≡ Some instr) (behind i) (stand.each (length first + i) instr (get-right first second i ∙ e)) }
+  where
+    behind : (i : ℕ) → at + (length first + i) ≡ at + length first + i
+    behind i = omega arith
+
+get-lined : (line : ℕ) (whats : List What) (i : ℕ) (what : What) → slice_get whats i ≡ Some what → slice_get (lined line whats) i ≡ Some (record { line = line; what = what })
+get-lined line [] zero what e = absurd (none-some what e)
+get-lined line [] (suc i) what e = absurd (none-some what e)
+get-lined line (first ∷ whats) zero what e = ap (λ (w : What). Some (record { line = line; what = w })) (same_Some first what e)
+get-lined line (first ∷ whats) (suc i) what e = get-lined line whats i what e
+
+pub lined-stand : {code : CodeLists} {at : ℕ} (line : ℕ) (whats : List What) → InstrsStand code at (lined line whats) → StandAt code line at whats
+lined-stand line whats stand = record { each = λ i what e. stand.each i (record { line = line; what = what }) (get-lined line whats i what e) }

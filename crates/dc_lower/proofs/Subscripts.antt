@@ -4,11 +4,13 @@ use Rattle.std.proofs.Math.Nat.{mod-lt, mod-add-div, div-lt_iff_lt-mul}
 use Rattle.std.proofs.lemmas.Int.{ints}
 use Rattle.std.specs.Prelude.{ℤ, pos, negsuc, ◌+ℤ◌, ◌≤ℤ◌, ◌<ℤ◌, int_le, if◌then◌else◌}
 use Rattle.std.specs.Int.{int_gap}
+use Rattle.dc_int.specs.Sorts.{Sort, whole, logical}
 use Rattle.dc_int.specs.Store.{Bounds, extent, elements_in, offset_in, joined_position, position_in}
+use Rattle.dc_lower.specs.Assigning.{kept_group}
 use Rattle.dc_lower.specs.Subscripts.{subscripts_at}
 
 -- a number that lies less far above the first one than the second does is below the second
-below : (low end : ℤ) (n : ℕ) → n < int_gap low end → (low +ℤ pos n) <ℤ end
+pub below : (low end : ℤ) (n : ℕ) → n < int_gap low end → (low +ℤ pos n) <ℤ end
 below (pos a) (pos b) n h = omega (arith, ints)
 below (pos a) (negsuc b) n h = absurd (omega arith)
 below (negsuc a) (pos b) n h = omega (arith, ints)
@@ -29,7 +31,7 @@ offset_back low high n h =
     let under_test : int_le (low +ℤ pos n) high ≡ true = search (arith, ints) in
     λ i. if above_test i && under_test i then Some (gap_of_more low (low +ℤ pos n) n refl i) else None
 
-some_extent : (size others position : ℕ) → position < size * others → 0 < size
+pub some_extent : (size others position : ℕ) → position < size * others → 0 < size
 some_extent zero others position h = let none : zero * others ≡ 0 = omega arith in absurd (omega arith)
 some_extent (suc size) others position h = omega arith
 
@@ -66,3 +68,7 @@ counted_from_one count before h =
 
 pub counted_elements : (count : ℕ) → elements_in ((pos 1, pos count) ∷ []) ≡ count
 counted_elements count = omega (arith, extent_of_count count)
+
+pub kept-bounds : (sort : Sort) (count : ℕ) → (kept_group sort count).bounds ≡ (pos 1, pos count) ∷ []
+kept-bounds (whole its_kind) count = refl
+kept-bounds logical count = refl

@@ -23,7 +23,7 @@ use Rattle.dc_meaning.specs.Places.{place_of, whole_values}
 use Rattle.dc_code.proofs.Sequences.{sequence-then}
 use Rattle.dc_lower.proofs.Going.{GoesAs}
 use Rattle.dc_lower.proofs.Placing.{stepped}
-use Rattle.dc_lower.proofs.Operators.{plus-one, element-there}
+use Rattle.dc_lower.proofs.OperatorLaws.{plus-one, element-there}
 
 -- ---- whole arrays
 

@@ -1,10 +1,14 @@
+pub mod Agreeing
 pub mod Assigning
 pub mod Blocks
 pub mod Carrying
 pub mod Expressions
 pub mod Lowerable
 pub mod Lowered
+pub mod Naming
 pub mod Placed
 pub mod Printing
+pub mod References
 pub mod Subscripts
+pub mod Today
 pub mod Typed

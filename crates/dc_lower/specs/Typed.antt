@@ -1,8 +1,7 @@
 -- What the rules of types leave of a program: that the sorts of operands are those which the instructions take. This
 -- project's own, after ISO/IEC 1539-1:2023, clauses 10.1.5 and 16.9.
-use Rattle.std.specs.Prelude.{◌≡◌, ℕ, ◌+◌, Bool, true, false, ◌&&◌, ◌||◌, nat_eq, nat_le, List, [], ◌∷◌, Option, Some, None, slice_get, if◌then◌else◌, ℤ, pos, int_le, IsTrue}
+use Rattle.std.specs.Prelude.{◌≡◌, ℕ, Bool, true, false, ◌&&◌, ◌||◌, nat_eq, nat_le, List, [], ◌∷◌, Option, Some, None, slice_get, if◌then◌else◌, ℤ, pos, int_le, IsTrue}
 use Rattle.std.specs.List.{list_all}
-use Rattle.dc_int.specs.declared.kind.Kind.{Kind}
 use Rattle.dc_int.specs.declared.operation.Op.{Op}
 use Rattle.dc_int.specs.declared.variable.Shape.{Shape}
 use Rattle.dc_int.specs.Kinds.{bits_of, greatest_of, is_of_kind}
@@ -12,19 +11,16 @@ use Rattle.dc_int.specs.Store.{Bounds}
 use Rattle.dc_code.specs.declared.plan.Group.{Group}
 use Rattle.dc_code.specs.declared.plan.Plan.{Plan}
 use Rattle.dc_code.specs.Codes.{CodeLists}
-use Rattle.dc_code.specs.Instructions.{takes_one}
 use Rattle.dc_code.specs.StackSorts.{ItemSort, a_truth}
 use Rattle.dc_code.specs.StackSorts as items
 use Rattle.dc_tree.specs.declared.token.Mark.{Mark}
-use Rattle.dc_tree.specs.Blocks.{Item, Items, plain, loop, none, and_then}
+use Rattle.dc_tree.specs.Blocks.{Items, plain, none, and_then}
 use Rattle.dc_tree.specs.Entities.{Entity, outside, slots, constant, nothing, Scope, entity}
 use Rattle.dc_tree.specs.Intrinsics.{Intrinsic, operation, chosen, merge, converted, count, any, all, intrinsic}
 use Rattle.dc_tree.specs.Literals.{number_of}
 use Rattle.dc_tree.specs.Statements.{Name, Ranging, Deed, assign, fill, print, Statement, act}
-use Rattle.dc_tree.specs.Syntax as syntax
-use Rattle.dc_tree.specs.Syntax.{Tree, Args, number, chars, name, refer, paren, unary, binary, no_args, arg}
+use Rattle.dc_tree.specs.Syntax.{Tree, Args, number, name, refer, paren, unary, binary, no_args, arg}
 use Rattle.dc_tree.specs.Typing.{is_arithmetic, kind_with_suffix, sort_of, sorts_of, first_sort, sort_of_entity}
-use Rattle.dc_meaning.specs.Actions.{is_array}
 use Rattle.dc_meaning.specs.Values.{array_named}
 use Rattle.dc_lower.specs.Expressions.{is_number}
 

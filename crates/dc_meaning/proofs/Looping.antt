@@ -116,7 +116,7 @@ abbrev pub concurrent-with : Scope → ℕ → Line → Items → Ranging → Co
 concurrent-with scope number head body ranging =
     record { number = number; line = head.line; around = scope; spec = None; indexes = ranging ∷ []; mask = None; locality = []; body = body }
 
-one-loop : (within : Surroundings) (scope : Scope) (number : ℕ) (head : Line) (body : Items) (close : Line) (built : BuiltLoop scope head.says body)
+pub one-loop : (within : Surroundings) (scope : Scope) (number : ℕ) (head : Line) (body : Items) (close : Line) (built : BuiltLoop scope head.says body)
     → loops_of within scope number (blocks.loop head body close) ≡ concurrent-with scope number head body built.ranging ∷ []
 one-loop within scope number head body close built =
     let found = concurrent-with scope number head body built.ranging in

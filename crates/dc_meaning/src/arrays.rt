@@ -78,7 +78,7 @@ pub(crate) fn folded(function: Intrinsic, form: Form, values: &[i64]) -> i64
 }
 
 /// The dimension that the second argument names.
-pub(crate) fn dimension_named(bounds: &[(i64, i64)], args: &[Known]) -> Option<(i64, i64)>
+pub fn dimension_named(bounds: &[(i64, i64)], args: &[Known]) -> Option<(i64, i64)>
     ensures { result ≡ meaning.dimension_named bounds.now (map known_value args.now) }
 {
     match args {
@@ -130,7 +130,7 @@ fn size_of(bounds: &[(i64, i64)]) -> i64
 }
 
 /// SIZE, LBOUND and UBOUND of an array, along a dimension where one is named.
-pub(crate) fn about_array(
+pub fn about_array(
     function: Intrinsic,
     bounds: &[(i64, i64)],
     dimension: Option<(i64, i64)>,
@@ -150,14 +150,14 @@ pub(crate) fn about_array(
 }
 
 /// HUGE, BIT_SIZE and KIND of an argument of a form.
-pub(crate) fn asked(function: Intrinsic, form: Form) -> i64
+pub fn asked(function: Intrinsic, form: Form) -> i64
     ensures { result ≡ asked_about (operating.about_kind (function_of function) (sort_of_form form)) }
 {
     about_kind(function, form).unwrap_or(0)
 }
 
 /// The bounds of what a name stands for.
-pub(crate) fn bounds_of(found: Found<'_>) -> &[(i64, i64)]
+pub fn bounds_of(found: Found<'_>) -> &[(i64, i64)]
     ensures bounds { result.now ≡ places.bounds_of_entity (entity_of found.entry) }
     ensures same { result.now ≡ bounds_found found.entry }
 {
@@ -168,7 +168,7 @@ pub(crate) fn bounds_of(found: Found<'_>) -> &[(i64, i64)]
 }
 
 /// The form of what a name stands for.
-pub(crate) fn form_of(found: Found<'_>) -> Form
+pub fn form_of(found: Found<'_>) -> Form
     ensures { sort_of_form result ≡ sort_of_entity (entity_of found.entry) }
 {
     match found {
@@ -179,7 +179,7 @@ pub(crate) fn form_of(found: Found<'_>) -> Form
 }
 
 /// The form of the first argument.
-pub(crate) fn first_form(args: &[Known]) -> Form
+pub fn first_form(args: &[Known]) -> Form
     ensures { sort_of_form result ≡ first_sort (map known_sort args.now) }
 {
     match args {

@@ -17,7 +17,7 @@ use dc_tree::{Index, Stmt, Symbols};
 use std::alloc::Global;
 
 /// The first index of a header.
-pub(crate) fn first_index(head: &Stmt) -> &Index
+pub fn first_index(head: &Stmt) -> &Index
     requires { IsTrue (visiting.has_index (statement head.now)) }
     ensures { visiting.first_index (statement head.now) (index_ranging result.now) }
 {
@@ -31,7 +31,7 @@ pub(crate) fn first_index(head: &Stmt) -> &Index
 }
 
 /// The kind of the variable that an index is named as.
-pub(crate) fn index_kind(symbols: &Symbols, numbering: &Numbering, name: &[u8]) -> Kind
+pub fn index_kind(symbols: &Symbols, numbering: &Numbering, name: &[u8]) -> Kind
     requires symbols { IsTrue (are_built_symbols symbols.now) }
     requires numbers { numbering.now ≡ numbers_of symbols.now }
     ensures { result ≡ kind_of_index symbols.now name.now }
@@ -41,7 +41,7 @@ pub(crate) fn index_kind(symbols: &Symbols, numbering: &Numbering, name: &[u8]) 
 }
 
 /// The index of a loop as a list of names.
-pub(crate) fn index_list(
+pub fn index_list(
     alloc: Global,
     name: &DcText,
     kind: Kind,
@@ -57,7 +57,7 @@ pub(crate) fn index_list(
 }
 
 /// The names that the block of a loop can use.
-pub(crate) fn block_standing<'a>(symbols: &'a Symbols, indexes: &'a [IndexName]) -> Standing<'a>
+pub fn block_standing<'a>(symbols: &'a Symbols, indexes: &'a [IndexName]) -> Standing<'a>
     ensures symbols { result.symbols.now ≡ symbols.now }
     ensures unit { result.unit ≡ 0 }
     ensures indexes { result.indexes.now ≡ indexes.now }

@@ -26,10 +26,13 @@ mod walk;
 mod wholes;
 
 pub use alone_out::AloneOut;
+pub use arrays::{about_array, asked, bounds_of, dimension_named, first_form, form_of};
 pub use assignment::{perform, pieces_of};
+pub use indexes::{block_standing, first_index, index_kind, index_list};
 pub use iteration::alone;
 pub use law::what_is_seen_is_a_run;
 pub use output::Piece;
 pub use plain::{PlainVerdict, has_loop, plain_verdict};
+pub use reference::function_named;
 pub use stop::Stop;
 pub use visits::visit;

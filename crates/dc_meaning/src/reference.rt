@@ -77,7 +77,7 @@ fn asked_by(function: Intrinsic) -> Asks
 }
 
 /// The function of the language that a name stands for, unless something of that name is declared.
-pub(crate) fn function_named(found: Found<'_>, text: &[u8]) -> Option<Intrinsic>
+pub fn function_named(found: Found<'_>, text: &[u8]) -> Option<Intrinsic>
     ensures { option_map function_of result ≡ hidden_by (entity_of found.entry) (intrinsic text.now) }
 {
     match found {

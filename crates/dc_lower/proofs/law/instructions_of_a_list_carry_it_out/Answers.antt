@@ -1,5 +1,5 @@
 use Rattle.dc_lower.proofs.Filling.{list-law}
-use Rattle.dc_lower.proofs.Operators.{both-hold}
+use Rattle.dc_lower.proofs.Facts.{both-hold}
 use Rattle.dc_lower.proofs.law.instructions_of_a_list_carry_it_out.Goals as goal
 
 pub returns : goal.returns

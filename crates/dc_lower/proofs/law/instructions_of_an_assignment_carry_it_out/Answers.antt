@@ -1,9 +1,9 @@
 use Rattle.std.proofs.Common.{refl}
 use Rattle.dc_code.specs.Machine.{machine}
 use Rattle.dc_tree.specs.Entities.{entity}
-use Rattle.dc_lower.proofs.Assigning.{assignment-law}
+use Rattle.dc_lower.proofs.AssignmentLaws.{assignment-law}
 use Rattle.dc_lower.proofs.Going.{machine-goes}
-use Rattle.dc_lower.proofs.Operators.{both-hold}
+use Rattle.dc_lower.proofs.Facts.{both-hold}
 use Rattle.dc_lower.proofs.law.instructions_of_an_assignment_carry_it_out.Goals as goal
 
 pub returns : goal.returns

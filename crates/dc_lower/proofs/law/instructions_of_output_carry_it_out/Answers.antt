@@ -1,6 +1,6 @@
 use Rattle.dc_code.specs.Machine.{machine}
 use Rattle.dc_lower.proofs.Going.{machine-goes}
-use Rattle.dc_lower.proofs.Printing.{printing-law}
+use Rattle.dc_lower.proofs.OutputLaws.{printing-law}
 use Rattle.dc_lower.proofs.law.instructions_of_output_carry_it_out.Goals as goal
 
 pub returns : goal.returns

@@ -30,7 +30,8 @@ use Rattle.dc_lower.specs.Placed.{StandAt, HaveNames, IsOutside}
 use Rattle.dc_tree.specs.Typing.{sort_of}
 use Rattle.dc_lower.proofs.Converting.{Converts, conversion-law}
 use Rattle.dc_lower.proofs.Expressions.{behind-two, behind-three, value-law}
-use Rattle.dc_lower.proofs.Operators.{all_pushed, pushed-names, taken-all, element-there, both-true, plus-one, plus-none}
+use Rattle.dc_lower.proofs.Facts.{both-true}
+use Rattle.dc_lower.proofs.OperatorLaws.{all_pushed, pushed-names, taken-all, element-there, plus-one, plus-none}
 use Rattle.dc_lower.proofs.Wholes.{outer_place_of, outer-places}
 use Rattle.dc_lower.proofs.Going.{GoesAs}
 use Rattle.dc_lower.proofs.Placing.{stand-left, stand-right, stand-rest, stepped}

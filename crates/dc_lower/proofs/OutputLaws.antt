@@ -1,5 +1,6 @@
 -- The instructions of an output statement write its line.
 use Rattle.std.proofs.Common.{◌≡◌, ℕ, suc, ◌+◌, Bool, true, false, cond, List, [], ◌∷◌, ◌++◌, length, map, flat_map, Some, refl, sym, ap, ◌∙◌, subst, arith}
+use Rattle.std.proofs.lemmas.List.{map-append}
 use Rattle.std.proofs.lemmas.Bool.{false≢true}
 use Rattle.std.specs.List.{range_with_len}
 use Rattle.std.specs.Prelude.{ℤ, slice_get, not}
@@ -31,7 +32,8 @@ use Rattle.dc_lower.specs.Expressions.{value_code, is_usable}
 use Rattle.dc_lower.specs.Placed.{StandAt, HaveNames, IsOutside, IsLineless}
 use Rattle.dc_lower.specs.Printing.{put_code, whole_code, item_code, items_code, printing_code, texts_of_item, texts_of_items, TextsStand, is_outside, gives_item, give_items}
 use Rattle.dc_lower.proofs.Expressions.{behind-two, value-law}
-use Rattle.dc_lower.proofs.Operators.{both-true, append-assoc, plus-one, plus-none}
+use Rattle.dc_lower.proofs.Facts.{both-true}
+use Rattle.dc_lower.proofs.OperatorLaws.{append-assoc, plus-one, plus-none}
 use Rattle.dc_lower.proofs.Wholes.{outer_place_of, outer-places, reads-law}
 use Rattle.dc_lower.proofs.Going.{GoesAs}
 use Rattle.dc_lower.proofs.Placing.{get-left, get-right, stand-left, stand-right, stepped}
@@ -44,10 +46,6 @@ texts given = map piece_text given
 put-both : (first second : List (List ℕ)) (frame : Frame) → put_each (first ++ second) frame ≡ put_each second (put_each first frame)
 put-both [] second frame = refl
 put-both (text ∷ first) second frame = put-both first second (put text frame)
-
-map-both : {A B : Type 0} (f : A → B) (first second : List A) → map f (first ++ second) ≡ map f first ++ map f second
-map-both f [] second = refl
-map-both f (item ∷ first) second = ap (λ rest. f item ∷ rest) (map-both f first second)
 
 put-rest : (given : List (List ℕ)) (frame : Frame) → frame.begun ≡ true → (put_each given frame).line ++ 10 ∷ [] ≡ frame.line ++ rest_of_line given
 put-rest [] frame begun = refl
@@ -210,7 +208,7 @@ items-law code go goes scope call line at next frame state (tree ∷ trees) name
     (texts-right next (texts_of_item tree) (texts_of_items trees) there) (stand-right at first second stand) (both-true so).1
     (λ v. K (given ∷ v.0, v.1))
     (λ others. ap (λ (f : Frame). go (at + length first + length second) f state.turns)
-    (sym (put-both (texts given) (texts (all_pieces others)) frame) ∙ ap (λ (ts : List (List ℕ)). put_each ts frame) (sym (map-both piece_text given (all_pieces others))))
+    (sym (put-both (texts given) (texts (all_pieces others)) frame) ∙ ap (λ (ts : List (List ℕ)). put_each ts frame) (sym (map-append piece_text given (all_pieces others))))
     ∙ ap (λ place. go place (put_each (texts (all_pieces (given ∷ others))) frame) state.turns) (behind-two first second at)
     ∙ later (given ∷ others))
     ∙ sym (sequence-then (acts.for_each (pieces scope call line) trees state) (λ v. give (given ∷ v.0, v.1)) K))

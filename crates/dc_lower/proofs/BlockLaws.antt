@@ -1,8 +1,7 @@
 -- The instructions of a block carry it out, statement by statement.
-use Rattle.std.proofs.Common.{◌≡◌, ◌<◌, ℕ, zero, suc, ◌+◌, Bool, true, List, [], ◌∷◌, ◌++◌, length, Some, refl, sym, ap, ◌∙◌, subst, arith}
+use Rattle.std.proofs.Common.{◌≡◌, ◌<◌, ℕ, suc, ◌+◌, Bool, true, List, [], ◌∷◌, ◌++◌, length, Some, refl, sym, ap, ◌∙◌, subst, arith}
 use Rattle.std.proofs.lemmas.Bool.{false≢true}
-use Rattle.std.proofs.lemmas.Option.{none-some, same_Some}
-use Rattle.std.specs.Prelude.{min, slice_get}
+use Rattle.std.specs.Prelude.{min}
 use Rattle.dc_code.specs.declared.instr.Instr.{Instr}
 use Rattle.dc_code.specs.declared.instr.What.{What}
 use Rattle.dc_code.specs.declared.plan.Group.{Group}
@@ -29,42 +28,21 @@ use Rattle.dc_lower.specs.Blocks.{lined, InstrsStand, deed_code, texts_of_deed, 
 use Rattle.dc_lower.specs.Carrying.{inside}
 use Rattle.dc_lower.specs.Placed.{StandAt, HaveNames, HaveKept, IsLineless, Alike}
 use Rattle.dc_lower.specs.Printing.{TextsStand}
-use Rattle.dc_lower.proofs.Assigning.{assignment-law}
+use Rattle.dc_lower.proofs.AssignmentLaws.{assignment-law}
 use Rattle.dc_lower.proofs.Filling.{filling-law}
 use Rattle.dc_lower.proofs.Kept.{same-alike, alike-names, alike-kept, alike-lineless}
-use Rattle.dc_lower.proofs.Operators.{both-true, plus-one, plus-none}
+use Rattle.dc_lower.proofs.Facts.{both-true}
+use Rattle.dc_lower.proofs.OperatorLaws.{plus-one, plus-none}
 use Rattle.dc_lower.proofs.Going.{GoesAs, blank_frame, leaving_turns, leaving-goes, machine-step, turns_left}
-use Rattle.dc_lower.proofs.Placing.{get-left, get-right, stand-first, stepped}
-use Rattle.dc_lower.proofs.Printing.{texts-left, texts-right, printing-law}
+use Rattle.dc_lower.proofs.Placing.{get-left, get-right, stand-first, stepped, instrs-left, instrs-right, lined-stand}
+use Rattle.dc_lower.proofs.OutputLaws.{texts-left, texts-right, printing-law}
+use Rattle.std.proofs.lemmas.List.{length-append}
 
 -- ---- where instructions stand
-
-instrs-left : {code : CodeLists} {at : ℕ} (first second : List Instr) → InstrsStand code at (first ++ second) → InstrsStand code at first
-instrs-left first second stand = record { each = λ i instr e. stand.each i instr (get-left first second i instr e) }
-
-instrs-right : {code : CodeLists} (at : ℕ) (first second : List Instr) → InstrsStand code at (first ++ second) → InstrsStand code (at + length first) second
-instrs-right {code} at first second stand =
-    record { each = λ i instr e. subst (λ place. slice_get code.instructions place ≡ Some instr) (behind i) (stand.each (length first + i) instr (get-right first second i ∙ e)) }
-  where
-    behind : (i : ℕ) → at + (length first + i) ≡ at + length first + i
-    behind i = omega arith
-
-get-lined : (line : ℕ) (whats : List What) (i : ℕ) (what : What) → slice_get whats i ≡ Some what → slice_get (lined line whats) i ≡ Some (record { line = line; what = what })
-get-lined line [] zero what e = absurd (none-some what e)
-get-lined line [] (suc i) what e = absurd (none-some what e)
-get-lined line (first ∷ whats) zero what e = ap (λ (w : What). Some (record { line = line; what = w })) (same_Some first what e)
-get-lined line (first ∷ whats) (suc i) what e = get-lined line whats i what e
-
-lined-stand : {code : CodeLists} {at : ℕ} (line : ℕ) (whats : List What) → InstrsStand code at (lined line whats) → StandAt code line at whats
-lined-stand line whats stand = record { each = λ i what e. stand.each i (record { line = line; what = what }) (get-lined line whats i what e) }
 
 length-lined : (line : ℕ) (whats : List What) → length (lined line whats) ≡ length whats
 length-lined line [] = refl
 length-lined line (what ∷ whats) = ap suc (length-lined line whats)
-
-length-instrs : (first second : List Instr) → length (first ++ second) ≡ length first + length second
-length-instrs [] second = omega arith
-length-instrs (x ∷ first) second = ap suc (length-instrs first second) ∙ omega arith
 
 -- ---- statements
 
@@ -228,7 +206,7 @@ block-law code go goes scope called at next free number frame own turns loops (a
     ∙ block-law code go goes scope called (at + length first) (next + length (texts_of_item (plain line))) (free + length groups) (number + 0) left own turns loops rest
     (stands-rest free groups (groups_of_block scope rest) alike stands)
     (texts-right next (texts_of_item (plain line)) (texts_of_block rest) there) (instrs-right at first second stand) (both-true so).1 alone K
-    (λ behind left. ap (λ place. go place behind left) (there-behind (length first) (length second) (length (first ++ second)) (length-instrs first second)) ∙ later behind left))
+    (λ behind left. ap (λ place. go place behind left) (there-behind (length first) (length second) (length (first ++ second)) (length-append first second)) ∙ later behind left))
     ∙ sym (sequence-then (plain_line scope called line (inside own turns)) (λ w. behind_item (exec_all scope called (number + 0) rest) w.0 w.1) K)
   where
     there-behind : (l m n : ℕ) → n ≡ l + m → at + l + m ≡ at + n

@@ -1,5 +1,5 @@
 -- Values on the stack, elements, slots, names and operators: the machine against what they mean.
-use Rattle.std.proofs.Common.{◌≡◌, ◌<◌, ℕ, suc, ◌+◌, ◌-◌, Bool, true, false, ◌&&◌, cond, List, [], ◌∷◌, ◌++◌, length, Option, Some, None, refl, sym, ap, ◌∙◌, subst, arith}
+use Rattle.std.proofs.Common.{◌≡◌, ◌<◌, ℕ, suc, ◌+◌, ◌-◌, true, false, cond, List, [], ◌∷◌, ◌++◌, length, Option, Some, None, refl, sym, ap, ◌∙◌, subst, arith}
 use Rattle.std.proofs.lemmas.Bool.{lt-ltb, eqb-true, false≢true}
 use Rattle.std.specs.Prelude.{ℤ, pos, Ok, Err, nat_eq, nat_lt, is_some}
 use Rattle.dc_int.specs.declared.access.ElementId.{ElementId}
@@ -207,13 +207,6 @@ slots-law code go goes call line at frame state group sort bounds zs stand is ra
         ∙ answered (acts.slot_of state.frames (length state.frames - 1) group position))
 
 -- ---- names
-
-pub both-hold : {a b : Bool} → a ≡ true → b ≡ true → (a && b) ≡ true
-both-hold {b = b} first second = ap (λ c. c && b) first ∙ second
-
-pub both-true : {a b : Bool} → (a && b) ≡ true → (a ≡ true) × (b ≡ true)
-both-true {a = true} {b = b} e = (refl, e)
-both-true {a = false} {b = b} e = absurd (false≢true e)
 
 pub no-value : (subscripts : List ℤ) → nat_eq (length subscripts) 0 ≡ true → subscripts ≡ []
 no-value [] e = refl
