@@ -170,6 +170,14 @@ impl Ledger {
         value_in(self.variables.as_slice(), element)
     }
 
+    /// Puts an element in a state, and notes nothing. Where there is no such element nothing is done.
+    pub fn put(&mut self, element: ElementId, state: Option<i64>)
+        ensures store { (self.new).store ≡ put_at (self.old).store element state }
+        ensures entries { (self.new).entries ≡ (self.old).entries }
+    {
+        put(&mut self.variables, element, state);
+    }
+
     /// Reads an element, and notes that.
     pub fn get(&mut self, element: ElementId, line: u32) -> Result<Option<i64>, NoMemory>
         ensures state { IfOk result (λ state. state ≡ value_at (self.old).store element) }
