@@ -2,9 +2,12 @@
 //! and whole programs have, and the laws that these do what the trees mean.
 #![tactic(auto)]
 
+mod assigning;
+mod count;
 mod law;
 mod names;
 mod operators;
+mod printing;
 mod references;
 mod values;
 
