@@ -3,8 +3,10 @@
 #![tactic(auto)]
 
 mod assigning;
+mod blocks;
 mod count;
 mod law;
+mod lists;
 mod names;
 mod operators;
 mod printing;
