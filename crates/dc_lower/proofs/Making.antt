@@ -9,7 +9,7 @@ use Rattle.dc_tree.specs.declared.token.Mark.{Mark}
 use Rattle.dc_tree.specs.Entities as entities
 use Rattle.dc_tree.specs.Entities.{Entity, outside, slots, dummy, constant, subroutine, reduction, nothing, Scope, entity}
 use Rattle.dc_tree.specs.Intrinsics.{Intrinsic, operation, chosen, merge, converted, huge, bit_size, kind, size, lower_bound, upper_bound, total, count, any, all, intrinsic}
-use Rattle.dc_tree.specs.Syntax.{Tree, Args, paren, unary, binary, refer, arg, tree, arg_tree, args_from, tree_step, arg_step}
+use Rattle.dc_tree.specs.Syntax.{Tree, Args, binary, refer, arg, tree, arg_tree, args_from, tree_step, arg_step}
 use Rattle.dc_tree.specs.Typing.{joined, kind_converted, sort_of, first_sort, sorts_of}
 use Rattle.dc_tree.proofs.Views.{tree-Binary}
 use Rattle.dc_sorts.specs.declared.form.Form.{Form}
@@ -19,7 +19,7 @@ use Rattle.dc_sorts.specs.Knowing.{known_of, known_args, known_sort, known_value
 use Rattle.dc_meaning.specs.Evaluating.{hidden_by}
 use Rattle.dc_meaning.proofs.Gathering.{next-is}
 use Rattle.dc_meaning.proofs.Inquiring.{known-sort, first-known, values-known}
-use Rattle.dc_lower.specs.Expressions.{joined_code, value_code, values_code, first_code, chosen_code, entity_code, function_code, referred_code}
+use Rattle.dc_lower.specs.Expressions.{joined_code, value_code, values_code, first_code, chosen_code, function_code, referred_code}
 use Rattle.dc_lower.specs.References.{arguments_code, called_code, behind_code}
 
 -- ---- lists that grow at their end

@@ -1,8 +1,10 @@
+pub mod Adding
 pub mod Agreeing
 pub mod Assigning
 pub mod Blocks
 pub mod Carrying
 pub mod Expressions
+pub mod Held
 pub mod Lowerable
 pub mod Lowered
 pub mod Naming

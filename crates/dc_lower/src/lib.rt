@@ -2,9 +2,14 @@
 //! and whole programs have, and the laws that these do what the trees mean.
 #![tactic(auto)]
 
+mod assigning;
+mod blocks;
+mod count;
 mod law;
+mod lists;
 mod names;
 mod operators;
+mod printing;
 mod references;
 mod values;
 

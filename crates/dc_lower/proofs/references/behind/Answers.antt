@@ -1,4 +1,4 @@
-use Rattle.std.proofs.Common.{◌≡◌, ap, sym, ◌∙◌, ◌++◌, List, map, rules}
+use Rattle.std.proofs.Common.{◌≡◌, map}
 use Rattle.dc_tree.specs.Syntax.{arg_tree, args_from}
 use Rattle.dc_tree.specs.Typing.{first_sort, sorts_of}
 use Rattle.dc_sorts.specs.Forms.{sort_of_form}

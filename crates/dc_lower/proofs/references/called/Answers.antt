@@ -1,4 +1,4 @@
-use Rattle.std.proofs.Common.{◌≡◌, ap, ◌∙◌, ◌++◌, ◌∷◌, [], List, map, rules}
+use Rattle.std.proofs.Common.{◌≡◌, ◌∷◌, [], map}
 use Rattle.dc_code.specs.declared.instr.What.{What}
 use Rattle.dc_tree.specs.Intrinsics.{converted}
 use Rattle.dc_tree.specs.Syntax.{arg_tree, args_from}

@@ -1,5 +1,5 @@
 -- One argument more, and the parts of a reference and of two operands.
-use Rattle.std.proofs.Common.{◌≡◌, ℕ, ◌+◌, ◌<◌, List, [], ◌∷◌, ◌++◌, length, map, drop, get_or, option_map, ap, sym, ◌∙◌, append_assoc, rules, arith}
+use Rattle.std.proofs.Common.{◌≡◌, ◌+◌, ◌<◌, List, [], ◌∷◌, ◌++◌, length, map, drop, get_or, option_map, ap, sym, ◌∙◌, append_assoc, rules, arith}
 use Rattle.dc_code.specs.declared.instr.What.{What}
 use Rattle.dc_tree.specs.declared.expr.Arg.{Arg, out-Arg}
 use Rattle.dc_tree.specs.declared.expr.Expr.{the_lemmas}
