@@ -208,7 +208,7 @@ module _ (looping : Looping) where
 
 -- ---- a program
 
-all-built : (symbols : List Symbol) → are_built_symbols symbols ≡ true → list_all is_built_symbol symbols ≡ true
+pub all-built : (symbols : List Symbol) → are_built_symbols symbols ≡ true → list_all is_built_symbol symbols ≡ true
 all-built symbols built =
     let few = nat_le (elements_of_all symbols) greatest_elements in
     let parts = and_parts (nat_le (length symbols) greatest_names) (list_all is_built_symbol symbols && few) built in

@@ -112,7 +112,7 @@ judged-shape loop keeps store (paused event rest) = absurd event
 visited-shape : (loop : Loop) → KeepsShape loop → (turns : ℕ) (store : Store) → SameShape store (visited judging loop turns store).store
 visited-shape loop keeps turns store = judged-shape loop keeps store (over store (header_of loop.form turns)).reached
 
-visit-store : (said : Verdict) (after : Store) → (visit_of said after 0).store ≡ after
+pub visit-store : (said : Verdict) (after : Store) → (visit_of said after 0).store ≡ after
 visit-store go_on after = refl
 visit-store (at_header trouble) after = refl
 visit-store (in_iteration trouble at) after = refl
