@@ -1,0 +1,4 @@
+pub mod LoopPlaces
+pub mod Resuming
+pub mod Tasks
+pub mod Variables
