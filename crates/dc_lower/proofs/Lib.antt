@@ -2,6 +2,7 @@ pub mod Alike
 pub mod AssignmentLaws
 pub mod BlockLaws
 pub mod Converting
+pub mod Declaring
 pub mod Expressions
 pub mod Facts
 pub mod Filling

@@ -7,11 +7,13 @@ mod blocks;
 mod count;
 mod law;
 mod lists;
+mod loops;
 mod names;
 mod operators;
 mod printing;
 mod references;
 mod values;
+mod variables;
 
 pub use law::{
     a_code_has_no_other_loops_than_its_program, a_code_of_today_enters_its_loops_alone,
