@@ -17,6 +17,7 @@ mod variables;
 
 pub use law::{
     a_code_has_no_other_loops_than_its_program, a_code_of_today_enters_its_loops_alone,
+    a_program_that_breaks_no_rule_is_lowerable,
     instructions_of_a_block_carry_it_out, instructions_of_a_list_carry_it_out,
     instructions_of_an_assignment_carry_it_out, instructions_of_an_expression_leave_its_value,
     instructions_of_output_carry_it_out, the_code_of_a_program_does_what_its_main_program_does,
