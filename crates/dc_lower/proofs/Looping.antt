@@ -1,5 +1,5 @@
 -- Each loop of a program that breaks no rule has instructions, for its limits and for its block.
-use Rattle.std.proofs.Common.{◌≡◌, ℕ, suc, ◌+◌, Bool, true, false, ◌&&◌, List, [], ◌∷◌, ◌++◌, length, Option, Some, None, is_none, filter_map, refl, sym, ap, ◌∙◌, subst}
+use Rattle.std.proofs.Common.{◌≡◌, ℕ, suc, ◌+◌, true, false, ◌&&◌, List, [], ◌∷◌, ◌++◌, length, Option, Some, None, is_none, refl, sym, ap, ◌∙◌, subst}
 use Rattle.std.proofs.lemmas.Bool.{and_parts, and_from, false≢true}
 use Rattle.std.specs.List.{list_all}
 use Rattle.dc_int.specs.declared.kind.Kind.{Kind}
@@ -7,7 +7,7 @@ use Rattle.dc_int.specs.Sorts.{Sort, whole, logical}
 use Rattle.dc_tree.specs.declared.symbols.Symbol.{Symbol}
 use Rattle.dc_tree.specs.Blocks.{Line, Item, Items, plain, branch, select, none, and_then}
 use Rattle.dc_tree.specs.Blocks as blocks
-use Rattle.dc_tree.specs.BuiltPrograms.{is_built_inside, is_built_line, is_built_block, is_whole_scalar, is_built_limit, is_built_loop, are_built_items, is_built_symbol}
+use Rattle.dc_tree.specs.BuiltPrograms.{is_built_line, is_built_block, is_whole_scalar, is_built_limit, is_built_loop, are_built_items, is_built_symbol}
 use Rattle.dc_tree.specs.Entities.{slots, Scope, entity, with_names, main_scope}
 use Rattle.dc_tree.specs.Findings.{finding_if}
 use Rattle.dc_tree.specs.Statements.{Name, Ranging, Statement}
@@ -27,7 +27,7 @@ use Rattle.dc_scope.specs.Scope as scopes
 use Rattle.dc_types.specs.Actions.{form_at, expression_findings, limit_findings}
 use Rattle.dc_types.specs.Loops as loops
 use Rattle.dc_types.specs.Types as types
-use Rattle.dc_meaning.specs.Concurrent.{Concurrent, Outside, Surroundings, block_scope, local_of, reduction_of}
+use Rattle.dc_meaning.specs.Concurrent.{Concurrent, Surroundings, block_scope}
 use Rattle.dc_meaning.specs.Numbering.{loops_of, loops_of_all}
 use Rattle.dc_lower.specs.Blocks.{block_is_lowered}
 use Rattle.dc_lower.specs.Expressions.{is_usable, is_number}
@@ -38,16 +38,12 @@ use Rattle.dc_lower.proofs.Deeds.{tree-passes}
 use Rattle.dc_lower.proofs.Places.{main_standing, loop_standing, block-knows, limits-know, index-means}
 use Rattle.dc_lower.proofs.Things.{Knows, form-known}
 use Rattle.dc_lower.proofs.Unbroken.{both-none, not-found}
+use Rattle.dc_lower.proofs.LoopShapes.{no-locals}
+use Rattle.dc_lower.proofs.KnownNames.{no-reductions}
+use Rattle.dc_lower.proofs.SimpleLoops.{no-loops}
+use Rattle.dc_lower.proofs.FittingLists.{all-both}
 
 -- ---- the scope of a block
-
-no-locals : (outsides : List Outside) → filter_map (local_of []) outsides ≡ []
-no-locals [] = refl
-no-locals (first ∷ rest) = no-locals rest
-
-no-reductions : (outsides : List Outside) → filter_map (reduction_of []) outsides ≡ []
-no-reductions [] = refl
-no-reductions (first ∷ rest) = no-reductions rest
 
 abbrev pub loop_with : ℕ → ℕ → Scope → Ranging → Items → Concurrent
 loop_with number line around ranging body =
@@ -105,20 +101,7 @@ none-there (Some tree) h = absurd (false≢true h)
 
 -- ---- one loop
 
-all-both : {A : Type 0} (test : A → Bool) (xs ys : List A) → list_all test xs ≡ true → list_all test ys ≡ true → list_all test (xs ++ ys) ≡ true
-all-both test [] ys one other = other
-all-both test (x ∷ xs) ys one other =
-    let parts = and_parts (test x) (list_all test xs) one in and_from (test x) (list_all test (xs ++ ys)) parts.0 (all-both test xs ys parts.1 other)
-
 -- no loop stands in the block of one
-no-loops : (within : Surroundings) (scope : Scope) (number : ℕ) (block : Items) → is_built_block block ≡ true → loops_of_all within scope number block ≡ []
-no-loops within scope number none built = refl
-no-loops within scope number (and_then (plain line) rest) built =
-    no-loops within scope (number + 0) rest ((and_parts (is_built_inside line.says) (is_built_block rest) built).1)
-no-loops within scope number (and_then (branch arms close) rest) built = absurd (false≢true built)
-no-loops within scope number (and_then (select head arms close) rest) built = absurd (false≢true built)
-no-loops within scope number (and_then (blocks.loop head body close) rest) built = absurd (false≢true built)
-
 module _ (symbols : List Symbol) (built : list_all is_built_symbol symbols ≡ true) (within : Surroundings) where
   module _ (ranging : Ranging) (scalar : IsScalar (entity (main_scope symbols) ranging.name)) where
     means : (rank : ℕ) × (declared_meaning symbols 0 ranging.name ≡ Meaning.Variable (Form.Whole scalar.its_kind) rank)
