@@ -1,5 +1,5 @@
-//! From trees to the instructions of the machine: which instructions expressions, statements, blocks
-//! and whole programs have, and the laws that these do what the trees mean.
+//! From trees to the instructions of the machine: which instructions expressions, statements,
+//! blocks and whole programs have, and the laws that these do what the trees mean.
 #![tactic(auto)]
 
 mod assigning;
