@@ -170,7 +170,7 @@ simple_loop scope number line ranging inside =
 abbrev pub indexed_scope : Scope → Ranging → Scope
 indexed_scope scope ranging = record { names = (ranging.name, slots 0 (sort_of_entity (entity scope ranging.name)) []) ∷ scope.names; groups = 1 }
 
-no-reductions : (variables : List Outside) → filter_map (reduction_of []) variables ≡ []
+pub no-reductions : (variables : List Outside) → filter_map (reduction_of []) variables ≡ []
 no-reductions [] = refl
 no-reductions (variable ∷ rest) = no-reductions rest
 

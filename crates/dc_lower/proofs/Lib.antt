@@ -1,7 +1,11 @@
+pub mod Accepting
 pub mod Alike
 pub mod AssignmentLaws
 pub mod BlockLaws
+pub mod Blocking
 pub mod Converting
+pub mod Declaring
+pub mod Deeds
 pub mod Expressions
 pub mod Facts
 pub mod Filling
@@ -15,6 +19,7 @@ pub mod Listing
 pub mod LoopCodes
 pub mod LoopForms
 pub mod LoopShapes
+pub mod Looping
 pub mod LoweringExamples
 pub mod MainNames
 pub mod MainPrograms

@@ -57,10 +57,6 @@ pub counted : (args : Args) → uses.count_of args ≡ count_of args
 counted no_args = refl
 counted (arg keyed given rest) = ap suc (counted rest)
 
-pub sorts-counted : (scope : Scope) (args : Args) → length (sorts_of scope args) ≡ count_of args
-sorts-counted scope no_args = refl
-sorts-counted scope (arg keyed given rest) = ap suc (sorts-counted scope rest)
-
 argument-form : (standing : Standing) (keyed : Bool) (form : Form) (tree : Tree) → form_in (argument_with standing keyed form tree) ≡ form
 argument-form standing keyed form (number digits suffix) = refl
 argument-form standing keyed form (syntax.truth given) = refl

@@ -1,5 +1,5 @@
 -- What names are in the main program, in the block of a loop and in its limits.
-use Rattle.std.proofs.Common.{◌≡◌, ◌⊎◌, inl, inr, ℕ, suc, Bool, true, false, ◌&&◌, cond, List, [], ◌∷◌, Option, Some, None, refl, sym, ap, ◌∙◌}
+use Rattle.std.proofs.Common.{◌≡◌, ◌⊎◌, inl, inr, ℕ, suc, Bool, true, false, ◌&&◌, cond, List, [], ◌∷◌, length, Option, Some, None, refl, sym, ap, ◌∙◌}
 use Rattle.std.proofs.lemmas.Bool.{and_parts, false≢true}
 use Rattle.std.proofs.lemmas.Slice.Eq.{bytes_eq-Decides}
 use Rattle.std.specs.Prelude.{nat_eq, bytes_eq}
@@ -12,10 +12,12 @@ use Rattle.dc_tree.specs.BuiltPrograms.{is_built_symbol, is_built_role}
 use Rattle.dc_tree.specs.Entities.{Entity, outside, entity, entity_in, symbols_in, outer_names, main_scope}
 use Rattle.dc_tree.specs.Statements.{Name}
 use Rattle.dc_tree.specs.Symbols.{symbol_at}
-use Rattle.dc_sorts.specs.Meanings.{meaning_of_symbol, or_symbol}
+use Rattle.dc_sorts.specs.declared.form.Form.{Form}
+use Rattle.dc_sorts.specs.declared.meaning.Meaning.{Meaning}
+use Rattle.dc_sorts.specs.Meanings.{meaning_of_symbol, or_symbol, declared_meaning}
 use Rattle.dc_sorts.specs.Standing.{Standing, scope_at}
 use Rattle.dc_lower.proofs.Alike.{IsIndex, known-alike}
-use Rattle.dc_lower.proofs.Things.{Thing, a_variable, an_index, a_counter, a_constant, undeclared, entity_of, meaning_of, bounds_in, symbol_bounds, IsThing, Knows}
+use Rattle.dc_lower.proofs.Things.{Thing, a_variable, an_index, a_counter, a_constant, undeclared, entity_of, meaning_of, is_declared, bounds_in, symbol_bounds, IsThing, Knows}
 
 -- ---- declared names
 
@@ -25,6 +27,7 @@ record IsSeen (all : List Symbol) (its : Entity) (symbol : Option Symbol) : Type
   stands : its ≡ entity_of thing
   means : meaning_of_symbol all symbol ≡ meaning_of thing
   bounded : symbol_bounds symbol ≡ bounds_in thing
+  declared : is_declared thing ≡ true
 
 either-seen : (all : List Symbol) (b : Bool) (first others : Entity) (one : Symbol) (rest : Option Symbol) → IsSeen all first (Some one) → IsSeen all others rest
     → IsSeen all (cond b first others) (cond b (Some one) rest)
@@ -53,17 +56,17 @@ seen-by : (all : List Symbol) (number scope : ℕ) (its_name : Name) (role : rol
     → SeenFrom all number (symbol_with scope its_name role ∷ xs) text
 seen-by all number scope its_name (roles.Role.Variable is_logical its_kind bounds initial) xs text here built rest =
     seen-first all number (suc number) (symbol_with scope its_name (roles.Role.Variable is_logical its_kind bounds initial)) xs text (outside number (sort_with is_logical its_kind) bounds) here (λ ys. refl)
-    (record { thing = a_variable number is_logical its_kind bounds; stands = refl; means = refl; bounded = refl }) (rest (suc number))
+    (record { thing = a_variable number is_logical its_kind bounds; stands = refl; means = refl; bounded = refl; declared = refl }) (rest (suc number))
 seen-by all number scope its_name (roles.Role.Constant is_logical its_kind z) xs text here built rest =
     seen-first all number number (symbol_with scope its_name (roles.Role.Constant is_logical its_kind z)) xs text (entity_of (a_constant is_logical its_kind z)) here (λ ys. refl)
-    (record { thing = a_constant is_logical its_kind z; stands = refl; means = refl; bounded = refl }) (rest number)
+    (record { thing = a_constant is_logical its_kind z; stands = refl; means = refl; bounded = refl; declared = refl }) (rest number)
 seen-by all number scope its_name (roles.Role.Function procedure) xs text here built rest = absurd (false≢true built)
 seen-by all number scope its_name (roles.Role.Subroutine procedure) xs text here built rest = absurd (false≢true built)
 seen-by all number scope its_name (roles.Role.Dummy place is_logical its_kind intent) xs text here built rest = absurd (false≢true built)
 seen-by all number scope its_name (roles.Role.Result is_logical its_kind) xs text here built rest = absurd (false≢true built)
 
 seen-from : (all : List Symbol) (text : Name) (xs : List Symbol) → list_all is_built_symbol xs ≡ true → (number : ℕ) → SeenFrom all number xs text
-seen-from all text [] built number = record { thing = undeclared; stands = refl; means = refl; bounded = refl }
+seen-from all text [] built number = record { thing = undeclared; stands = refl; means = refl; bounded = refl; declared = refl }
 seen-from all text (x ∷ xs) built number =
     let parts = and_parts (is_built_symbol x) (list_all is_built_symbol xs) built in
     let own = and_parts (nat_eq x.scope 0) (is_built_role x.role) parts.0 in
@@ -135,3 +138,22 @@ module _ (symbols : List Symbol) (built : list_all is_built_symbol symbols ≡ t
     names = λ text. limit-by text (bytes_eq index text) refl;
     sorts = known-alike (scope_at (loop_standing symbols index its_kind)) (main_scope symbols) (λ text. index-alike text (bytes_eq index text) refl);
   }
+
+-- The meaning of an index around its loop: that of the variable.
+index-of : (t : Thing) (number : ℕ) (its_kind : Kind) → is_declared t ≡ true → entity_of t ≡ outside number (whole its_kind) []
+    → (rank : ℕ) × (meaning_of t ≡ Meaning.Variable (Form.Whole its_kind) rank)
+index-of (a_variable variable false kind bounds) number its_kind declared e =
+    let same : kind ≡ its_kind = cc in (length bounds, ap (λ (one : Kind). Meaning.Variable (Form.Whole one) (length bounds)) same)
+index-of (a_variable variable true kind bounds) number its_kind declared e = let none : ⊥ = cc in absurd none
+index-of (an_index group kind) number its_kind declared e = absurd (false≢true declared)
+index-of (a_counter variable kind) number its_kind declared e = absurd (false≢true declared)
+index-of (a_constant is_logical kind z) number its_kind declared e = let none : ⊥ = cc in absurd none
+index-of undeclared number its_kind declared e = let none : ⊥ = cc in absurd none
+
+pub index-means : (symbols : List Symbol) → list_all is_built_symbol symbols ≡ true → (index : Name) (number : ℕ) (its_kind : Kind)
+    → entity (main_scope symbols) index ≡ outside number (whole its_kind) []
+    → (rank : ℕ) × (declared_meaning symbols 0 index ≡ Meaning.Variable (Form.Whole its_kind) rank)
+index-means symbols built index number its_kind around =
+    let seen = seen-from symbols index symbols built 0 in
+    let its = index-of seen.thing number its_kind seen.declared (sym seen.stands ∙ around) in
+    (its.0, ap (meaning_of_symbol symbols) (or-same (symbol_at symbols 0 index)) ∙ seen.means ∙ its.1)

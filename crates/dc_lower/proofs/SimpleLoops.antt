@@ -33,7 +33,7 @@ simple-both scope (found ∷ first) second are others = (are.0, simple-both scop
 
 -- ---- blocks of assignments
 
-no-loops : (within : Surroundings) (scope : Scope) (number : ℕ) (block : Items) → is_built_block block ≡ true → loops_of_all within scope number block ≡ []
+pub no-loops : (within : Surroundings) (scope : Scope) (number : ℕ) (block : Items) → is_built_block block ≡ true → loops_of_all within scope number block ≡ []
 no-loops within scope number none built = refl
 no-loops within scope number (and_then (plain line) rest) built = no-loops within scope (number + 0) rest (both-true built).1
 no-loops within scope number (and_then other rest) built = absurd (false≢true built)

@@ -25,7 +25,7 @@ not-false : (b : Bool) → not b ≡ false → b ≡ true
 not-false true h = refl
 not-false false h = sym h
 
-same-numbers : (a b : ℕ) → nat_eq b a ≡ true → nat_eq a b ≡ true
+pub same-numbers : (a b : ℕ) → nat_eq b a ≡ true → nat_eq a b ≡ true
 same-numbers a b h = eq-eqb a b (sym (eqb-true b a h))
 
 -- a variable of this rank with so many subscripts

@@ -20,10 +20,11 @@ use Rattle.dc_uses.specs.Uses as uses
 use Rattle.dc_uses.specs.Uses.{head_findings, reading_of, reading_undeclared, value_findings, asked_findings, reading_behind, use_findings, argument_findings}
 use Rattle.dc_meaning.specs.Values.{array_named}
 use Rattle.dc_lower.specs.Expressions.{is_whole_variable, is_number, count_of, has_one_or_two, chooses, takes_so, refers_so, is_usable, are_usable, first_usable}
-use Rattle.dc_lower.proofs.Naming.{name-gives, counted, sorts-counted, sorts-taken, value-read, names-whole}
+use Rattle.dc_lower.proofs.Naming.{name-gives, counted, sorts-taken, value-read, names-whole}
 use Rattle.dc_lower.proofs.Taking.{number-form, is_named_function, is_named_option, named-function, operation-taken, merge-taken}
 use Rattle.dc_lower.proofs.Things.{Thing, a_variable, an_index, a_counter, a_constant, undeclared, entity_of, meaning_of, Knows}
 use Rattle.dc_lower.proofs.Unbroken.{some-finding, both-none, found-not, fits-rank}
+use Rattle.dc_lower.proofs.RunsOfValues.{sorts-count}
 
 -- ---- the functions of the language
 
@@ -49,20 +50,20 @@ module _ (standing : Standing) (scope : Scope) (knows : Knows standing scope) (l
       → takes_so scope function args (are_usable scope args) (first_usable scope args) ≡ true
   function-so (operation op) named taken read each first =
       and_from (has_one_or_two op (count_of args)) (are_usable scope args)
-      (subst (λ (n : ℕ). has_one_or_two op n ≡ true) (sorts-counted scope args) ((operation-taken op (sorts_of scope args) named (sorts-taken standing scope knows (operation op) args taken)).0))
+      (subst (λ (n : ℕ). has_one_or_two op n ≡ true) (sorts-count scope args) ((operation-taken op (sorts_of scope args) named (sorts-taken standing scope knows (operation op) args taken)).0))
       (each read)
   function-so (chosen op) named taken read each first =
       and_from (chooses op) (nat_lt 0 (count_of args) && are_usable scope args) named
       (and_from (nat_lt 0 (count_of args)) (are_usable scope args)
-      (subst (λ (n : ℕ). nat_lt 0 n ≡ true) (sorts-counted scope args) (some-arguments op (sorts_of scope args) (sorts-taken standing scope knows (chosen op) args taken)))
+      (subst (λ (n : ℕ). nat_lt 0 n ≡ true) (sorts-count scope args) (some-arguments op (sorts_of scope args) (sorts-taken standing scope knows (chosen op) args taken)))
       (each read))
   function-so merge named taken read each first =
       and_from (nat_eq (count_of args) 3) (are_usable scope args)
-      (subst (λ (n : ℕ). nat_eq n 3 ≡ true) (sorts-counted scope args) ((merge-taken (sorts_of scope args) (sorts-taken standing scope knows merge args taken)).0))
+      (subst (λ (n : ℕ). nat_eq n 3 ≡ true) (sorts-count scope args) ((merge-taken (sorts_of scope args) (sorts-taken standing scope knows merge args taken)).0))
       (each read)
   function-so converted named taken read each first =
       and_from (nat_lt 0 (count_of args)) (first_usable scope args)
-      (subst (λ (n : ℕ). nat_lt 0 n ≡ true) (sorts-counted scope args) (one-converted (sorts_of scope args) (sorts-taken standing scope knows converted args taken)))
+      (subst (λ (n : ℕ). nat_lt 0 n ≡ true) (sorts-count scope args) (one-converted (sorts_of scope args) (sorts-taken standing scope knows converted args taken)))
       (first read)
   function-so huge named taken read each first = refl
   function-so bit_size named taken read each first = refl

@@ -14,3 +14,4 @@ pub mod References
 pub mod Subscripts
 pub mod Today
 pub mod Typed
+pub mod Variables

@@ -40,7 +40,8 @@ pub(crate) fn conversion(whats: &mut DcList<What>, given: Form, taken: Form) -> 
     }
 }
 
-/// Adds how a value on top of the stack is stored in a target, whose subscripts are evaluated before.
+/// Adds how a value on top of the stack is stored in a target, whose subscripts are evaluated
+/// before.
 #[tactic(auto, using(dc_sorts::proofs::Knowing::gathering))]
 fn storing(
     alloc: Global,
@@ -67,7 +68,8 @@ fn storing(
     }
 }
 
-/// Adds the instructions of an assignment: the value, then the subscripts, and then the elements are defined.
+/// Adds the instructions of an assignment: the value, then the subscripts, and then the elements
+/// are defined.
 #[tactic(auto, using(dc_sorts::proofs::Knowing::gathering))]
 pub(crate) fn assignment(
     alloc: Global,

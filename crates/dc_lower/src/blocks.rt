@@ -132,7 +132,8 @@ impl Lowering {
     #[tactic(auto, using(dc_tree::proofs::Views::statement_views))]
     fn block(&mut self, alloc: Global, names: &Names<'_>, nodes: &[Node]) -> Result<(), NoMemory>
         requires names { AreNamed names.now }
-        requires held { IsTrue (block_has_code (scope_of names.now) (items_from (map item nodes.now))) }
+        requires held { IsTrue (block_has_code (scope_of names.now)
+            (items_from (map item nodes.now))) }
         ensures { OnOk result (AddsBlock (scope_of names.now) self.old self.new
             (items_from (map item nodes.now))) }
     {

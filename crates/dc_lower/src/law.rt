@@ -22,10 +22,15 @@ ghost use Rattle.dc_code.specs.Machine.{machine, new_frame};
 ghost use Rattle.dc_code.specs.WellFormed.{IsWellFormed};
 ghost use Rattle.dc_tree.specs.declared.symbols.Symbol.{Symbol};
 ghost use Rattle.dc_tree.specs.Blocks.{Items, Source};
+ghost use Rattle.dc_tree.specs.BuiltPrograms.{is_built};
 ghost use Rattle.dc_tree.specs.Entities.{Scope, entity};
 ghost use Rattle.dc_tree.specs.Statements.{Name, Target};
+ghost use Rattle.dc_tree.specs.Symbols.{is_sound};
 ghost use Rattle.dc_tree.specs.Syntax.{Tree};
 ghost use Rattle.dc_tree.specs.Typing.{sort_of_entity};
+ghost use Rattle.dc_declare.specs.Declarations.{symbols_of};
+ghost use Rattle.dc_scope.specs.Answer.{scope_findings};
+ghost use Rattle.dc_types.specs.Types.{type_findings};
 ghost use Rattle.dc_meaning.specs.Actions.{assignment, filling, printing};
 ghost use Rattle.dc_meaning.specs.Concurrent.{Concurrent};
 ghost use Rattle.dc_meaning.specs.Execution.{exec_all};
@@ -130,6 +135,15 @@ pub fn a_code_has_no_other_loops_than_its_program()
         → (turns number : ℕ) → slice_get (program_loops symbols source turns) number ≡ None
         → HasNoIteration (code_forms (lowered symbols source) turns number [])
         × HasNoIteration (program_forms symbols source turns number []) }
+{}
+
+/// A program that is run today has code where it breaks no rule of names and none of types.
+pub fn a_program_that_breaks_no_rule_is_lowerable()
+    ensures { (source : Source) → scope_findings source ≡ []
+        → type_findings (symbols_of source) source ≡ []
+        → IsTrue (is_built (symbols_of source) source)
+        → IsTrue (list_all is_sound (symbols_of source))
+        → IsLowerable (symbols_of source) source }
 {}
 
 /// The code of a program that breaks no rule is well formed, where the bounds of its variables are

@@ -151,11 +151,13 @@ pub(crate) fn filling(
 ) -> Result<(), NoMemory>
     requires names { AreNamed names.now }
     requires held { IsTrue (list_all is_held (map tree items.now)) }
-    requires list { IsTrue (takes_list (entity (scope_of names.now) text.now) (length (map tree items.now))) }
+    requires list { IsTrue (takes_list (entity (scope_of names.now) text.now)
+        (length (map tree items.now))) }
     ensures code { OnOk result (whats.new ≡ whats.old ++ filling_code (scope_of names.now)
         (length groups.old) (map tree items.now) (entity (scope_of names.now) text.now)) }
     ensures groups { OnOk result (groups.new ≡ groups.old
-        ++ kept_group (sort_of_entity (entity (scope_of names.now) text.now)) (length (map tree items.now)) ∷ []) }
+        ++ kept_group (sort_of_entity (entity (scope_of names.now) text.now))
+        (length (map tree items.now)) ∷ []) }
 {
     let found = find(&names.standing, names.numbering, text);
     let group = held(groups.len())?;

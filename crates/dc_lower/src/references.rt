@@ -41,7 +41,8 @@ fn array_named<'a>(names: &Names<'a>, args: &[Arg]) -> Found<'a>
 /// What is asked about an array.
 fn asked_of_array(names: &Names<'_>, function: Intrinsic, args: &[Arg], known: &[Known]) -> i64
     requires names { AreNamed names.now }
-    requires known { known.now ≡ known_args (scope_of names.now) (args_from (map arg_tree args.now)) }
+    requires known { known.now
+        ≡ known_args (scope_of names.now) (args_from (map arg_tree args.now)) }
     ensures { result ≡ asked_of_array (scope_of names.now) (function_of function)
         (args_from (map arg_tree args.now)) }
 {
@@ -60,7 +61,8 @@ fn called(
     known: &[Known],
 ) -> Result<(), NoMemory>
     requires names { AreNamed names.now }
-    requires known { known.now ≡ known_args (scope_of names.now) (args_from (map arg_tree args.now)) }
+    requires known { known.now
+        ≡ known_args (scope_of names.now) (args_from (map arg_tree args.now)) }
     ensures { OnOk result (whats.new ≡ whats.old ++ called_code (scope_of names.now)
         (function_of function) (args_from (map arg_tree args.now)) (sort_of_form form)) }
 {
@@ -103,9 +105,11 @@ pub(crate) fn behind(
     known: &[Known],
 ) -> Result<(), NoMemory>
     requires names { AreNamed names.now }
-    requires known { known.now ≡ known_args (scope_of names.now) (args_from (map arg_tree args.now)) }
+    requires known { known.now
+        ≡ known_args (scope_of names.now) (args_from (map arg_tree args.now)) }
     ensures { OnOk result (whats.new ≡ whats.old ++ behind_code (scope_of names.now)
-        (entity_of found.entry) (option_map function_of function) (args_from (map arg_tree args.now))) }
+        (entity_of found.entry) (option_map function_of function)
+        (args_from (map arg_tree args.now))) }
 {
     match function {
         None => entity(whats, found),

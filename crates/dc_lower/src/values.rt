@@ -151,7 +151,8 @@ fn first_value(
     }
 }
 
-/// Adds the instructions of the arguments of MIN or MAX behind the first, each with the operation behind it.
+/// Adds the instructions of the arguments of MIN or MAX behind the first, each with the operation
+/// behind it.
 #[cycle(values)]
 #[tactic(auto, using(dc_tree::proofs::Views::expression_views, dc_sorts::proofs::Knowing::gathering))]
 fn further(
@@ -192,7 +193,8 @@ fn chosen(
     ensures known { IfOk result (λ known. known
         ≡ knowing.known_args (scope_of names.now) (args_from (map arg_tree args.now))) }
     ensures code { OnOk result (whats.new ≡ whats.old
-        ++ arguments_code (scope_of names.now) (Some (functions.chosen op)) (args_from (map arg_tree args.now))) }
+        ++ arguments_code (scope_of names.now) (Some (functions.chosen op))
+        (args_from (map arg_tree args.now))) }
 {
     match args {
         [first, ..] => {
@@ -222,7 +224,8 @@ fn arguments(
     ensures known { IfOk result (λ known. known
         ≡ knowing.known_args (scope_of names.now) (args_from (map arg_tree args.now))) }
     ensures code { OnOk result (whats.new ≡ whats.old
-        ++ arguments_code (scope_of names.now) (option_map function_of function) (args_from (map arg_tree args.now))) }
+        ++ arguments_code (scope_of names.now) (option_map function_of function)
+        (args_from (map arg_tree args.now))) }
 {
     match function {
         None | Some(Intrinsic::Operation(_)) | Some(Intrinsic::Merge) => {
