@@ -130,11 +130,7 @@ fn size_of(bounds: &[(i64, i64)]) -> i64
 }
 
 /// SIZE, LBOUND and UBOUND of an array, along a dimension where one is named.
-pub fn about_array(
-    function: Intrinsic,
-    bounds: &[(i64, i64)],
-    dimension: Option<(i64, i64)>,
-) -> i64
+pub fn about_array(function: Intrinsic, bounds: &[(i64, i64)], dimension: Option<(i64, i64)>) -> i64
     requires { elements_in bounds.now ≤ 4194304 }
     ensures { result ≡ meaning.about_array (function_of function) bounds.now dimension }
 {

@@ -41,11 +41,7 @@ pub fn index_kind(symbols: &Symbols, numbering: &Numbering, name: &[u8]) -> Kind
 }
 
 /// The index of a loop as a list of names.
-pub fn index_list(
-    alloc: Global,
-    name: &DcText,
-    kind: Kind,
-) -> Result<DcList<IndexName>, NoMemory>
+pub fn index_list(alloc: Global, name: &DcText, kind: Kind) -> Result<DcList<IndexName>, NoMemory>
     ensures { IfOk result (λ made. made ≡ record { name = name.now; kind = kind } ∷ []) }
 {
     let mut made = DcList::new(alloc);
