@@ -132,7 +132,8 @@ fn attend(
     ensures attends { IfOk result (λ met. (turns : ℕ)
         → Attends (looping_in forms) task.entry.symbols.now task.entry.code.now at turns
         standing.old standing.new met) }
-    ensures usual { IfOk result (λ met. IsUsual task.entry.symbols.now task.entry.code.now standing.new) }
+    ensures usual { IfOk result (λ met.
+        IsUsual task.entry.symbols.now task.entry.code.now standing.new) }
     ensures units { OnOk result
         ((standing.new).frame.units ≡ (standing.old).frame.units) }
 {
@@ -158,7 +159,8 @@ fn advance(
     ensures advances { IfOk result (λ step.
         Advances (looping_in forms) task.entry.symbols.now task.entry.code.now at turns
         standing.old standing.new step) }
-    ensures usual { IfOk result (λ step. IsUsual task.entry.symbols.now task.entry.code.now standing.new) }
+    ensures usual { IfOk result (λ step.
+        IsUsual task.entry.symbols.now task.entry.code.now standing.new) }
 {
     let ended = dc_vm::run(
         alloc,
