@@ -9,12 +9,12 @@ use Rattle.dc_code.specs.declared.plan.Plan.{Plan}
 use Rattle.dc_tree.specs.declared.symbols.Symbol.{Symbol}
 use Rattle.dc_tree.specs.Blocks as blocks
 use Rattle.dc_tree.specs.Blocks.{Line, Item, Items, Subprogram, Source, plain, branch, select, none, and_then}
-use Rattle.dc_tree.specs.BuiltPrograms.{is_built, are_built_symbols, is_built_assignment, is_built_deed, is_built_inside, is_built_line, is_built_block, is_built_loop, are_built_items}
+use Rattle.dc_tree.specs.BuiltPrograms.{is_built, are_built_symbols, is_built_deed, is_built_inside, is_built_line, is_built_block, is_built_loop, are_built_items}
 use Rattle.dc_tree.specs.Entities.{Scope, entity, main_scope}
 use Rattle.dc_tree.specs.Statements.{Deed, assign, fill, print, Statement, act}
 use Rattle.dc_meaning.specs.Alone.{index_name}
 use Rattle.dc_meaning.specs.Concurrent.{Concurrent, Surroundings, block_scope}
-use Rattle.dc_meaning.specs.Execution.{loops_in, loops_in_all}
+use Rattle.dc_meaning.specs.Execution.{loops_in}
 use Rattle.dc_meaning.specs.Numbering.{loops_of_all}
 use Rattle.dc_meaning.specs.Programs.{surroundings}
 use Rattle.dc_meaning.specs.WalkScope.{index_scope}
@@ -27,6 +27,8 @@ use Rattle.dc_lower.specs.Lowerable.{limits_are_lowered, loop_is_lowered}
 use Rattle.dc_lower.specs.Lowered.{main_code, main_plan, loops_code, plans_of_loops, constructs_from, lowered_with, lowered}
 use Rattle.dc_lower.specs.Typed.{block_is_typed}
 use Rattle.dc_lower.specs.Wholes.{lists_code, within_of, loops_behind, AddsLoops, IsBegun, insides_have_code}
+use Rattle.dc_lower.proofs.SimpleLoops.{none-entered}
+use Rattle.dc_lower.proofs.Blocking.{line-built}
 
 -- ---- blocks
 
@@ -37,27 +39,13 @@ deed-code scope (fill text trees) built lowers =
 deed-code scope (print written trees) built lowers = built
 deed-code scope other built lowers = absurd (false≢true lowers)
 
-as-deed : (deed : Deed) → is_built_assignment deed ≡ true → is_built_deed deed ≡ true
-as-deed (assign target tree) built = built
-as-deed (fill text trees) built = built
-as-deed other built = absurd (false≢true built)
-
 says-code : (scope : Scope) (says : Statement) → is_built_line says ≡ true → says_is_lowered scope says ≡ true → says_has_code scope says ≡ true
 says-code scope (act deed) built lowers = deed-code scope deed built lowers
 says-code scope other built lowers = absurd (false≢true built)
 
-as-line : (says : Statement) → is_built_inside says ≡ true → is_built_line says ≡ true
-as-line (act deed) built = as-deed deed built
-as-line other built = absurd (false≢true built)
-
-none-inside : (block : Items) → is_built_block block ≡ true → loops_in_all block ≡ 0
-none-inside none built = refl
-none-inside (and_then (plain line) rest) built = ap (λ n. 0 + n) (none-inside rest (and_parts (is_built_inside line.says) (is_built_block rest) built).1)
-none-inside (and_then other rest) built = absurd (false≢true built)
-
 one-inside : (scope : Scope) (head : Line) (body : Items) (close : Line) → BuiltLoop scope head.says body → loops_in (blocks.loop head body close) ≡ 1
 one-inside scope head body close built =
-    ap (λ (says : Statement). loops_in (blocks.loop (record { line = head.line; says = says }) body close)) built.is ∙ ap (λ n. 1 + n) (none-inside body built.block)
+    ap (λ (says : Statement). loops_in (blocks.loop (record { line = head.line; says = says }) body close)) built.is ∙ ap (λ n. 1 + n) (none-entered body built.block)
 
 -- A block of the main program.
 pub main-block-code : (scope : Scope) (block : Items) → are_built_items scope block ≡ true → block_is_lowered scope true block ≡ true → block_has_code scope block ≡ true
@@ -81,7 +69,7 @@ inner-block-code scope none built lowers = refl
 inner-block-code scope (and_then (plain line) rest) built lowers =
     let one = and_parts (is_built_inside line.says) (is_built_block rest) built in
     let two = and_parts (says_is_lowered scope line.says) (block_is_lowered scope false rest) lowers in
-    ap₂ (λ a b. a && b) (says-code scope line.says (as-line line.says one.0) two.0) (inner-block-code scope rest one.1 two.1)
+    ap₂ (λ a b. a && b) (says-code scope line.says (line-built line.says one.0) two.0) (inner-block-code scope rest one.1 two.1)
 inner-block-code scope (and_then other rest) built lowers = absurd (false≢true built)
 
 module _ (within : Surroundings) (symbols : List Symbol) where
