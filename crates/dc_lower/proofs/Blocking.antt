@@ -38,7 +38,7 @@ deed-built (assign target tree) built = built
 deed-built (fill text trees) built = built
 deed-built other built = absurd (false≢true built)
 
-line-built : (says : Statement) → is_built_inside says ≡ true → is_built_line says ≡ true
+pub line-built : (says : Statement) → is_built_inside says ≡ true → is_built_line says ≡ true
 line-built (act deed) built = deed-built deed built
 line-built other built = absurd (false≢true built)
 

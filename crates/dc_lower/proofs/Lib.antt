@@ -20,6 +20,8 @@ pub mod LoopCodes
 pub mod LoopForms
 pub mod LoopShapes
 pub mod Looping
+pub mod LoweredLoops
+pub mod LoweredPrograms
 pub mod LoweringExamples
 pub mod MainNames
 pub mod MainPrograms

@@ -15,3 +15,4 @@ pub mod Subscripts
 pub mod Today
 pub mod Typed
 pub mod Variables
+pub mod Wholes

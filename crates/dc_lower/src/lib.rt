@@ -11,9 +11,11 @@ mod loops;
 mod names;
 mod operators;
 mod printing;
+mod program;
 mod references;
 mod values;
 mod variables;
+mod whole;
 
 pub use law::{
     a_code_has_no_other_loops_than_its_program, a_code_of_today_enters_its_loops_alone,
@@ -23,3 +25,4 @@ pub use law::{
     the_code_of_a_program_does_what_its_main_program_does, the_code_of_a_program_is_well_formed,
     the_loops_of_a_code_are_the_loops_of_the_program,
 };
+pub use whole::lower;

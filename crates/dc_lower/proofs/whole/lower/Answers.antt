@@ -1,0 +1,11 @@
+-- The lists that are made are those of a code that is well formed.
+use Rattle.std.proofs.Common.{sym, subst}
+use Rattle.dc_code.specs.WellFormed.{IsWellFormed}
+use Rattle.dc_tree.specs.Blocks.{source_of}
+use Rattle.dc_lower.proofs.WellFormedCodes.{code-is-well-formed}
+use Rattle.dc_lower.proofs.whole.lower.Goals as goal
+
+pub new-requires : goal.new-requires
+new-requires c =
+    let made = c.in_ok-instructions.ensures in
+    subst IsWellFormed (sym made.lists) (code-is-well-formed c.args.symbols.now (source_of c.args.program.now) c.requires made.held)
