@@ -8,6 +8,7 @@ mod count;
 mod law;
 mod lists;
 mod loops;
+mod lowering;
 mod names;
 mod operators;
 mod printing;
@@ -15,7 +16,6 @@ mod program;
 mod references;
 mod values;
 mod variables;
-mod whole;
 
 pub use law::{
     a_code_has_no_other_loops_than_its_program, a_code_of_today_enters_its_loops_alone,
@@ -25,4 +25,4 @@ pub use law::{
     the_code_of_a_program_does_what_its_main_program_does, the_code_of_a_program_is_well_formed,
     the_loops_of_a_code_are_the_loops_of_the_program,
 };
-pub use whole::lower;
+pub use lowering::lower;

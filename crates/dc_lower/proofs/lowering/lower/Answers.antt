@@ -3,7 +3,7 @@ use Rattle.std.proofs.Common.{sym, subst}
 use Rattle.dc_code.specs.WellFormed.{IsWellFormed}
 use Rattle.dc_tree.specs.Blocks.{source_of}
 use Rattle.dc_lower.proofs.WellFormedCodes.{code-is-well-formed}
-use Rattle.dc_lower.proofs.whole.lower.Goals as goal
+use Rattle.dc_lower.proofs.lowering.lower.Goals as goal
 
 pub new-requires : goal.new-requires
 new-requires c =

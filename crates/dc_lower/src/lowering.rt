@@ -11,8 +11,9 @@ use dc_text::NoMemory;
 use dc_tree::{Program, Symbols};
 use std::alloc::Global;
 
-/// The code of a program that breaks no rule: its main program, and behind it the header and the
-/// block of each loop.
+/// The code of a program that is run today and breaks no rule, with its declared names: its main
+/// program, and behind it the header and the block of each loop. A code with more instructions than
+/// there are places for wants memory too.
 pub fn lower(alloc: Global, program: &Program, symbols: &Symbols) -> Result<Code, NoMemory>
     requires { IsLowerable symbols.now (source_of program.now) }
     ensures { IfOk result (λ code. code ≡ lowered symbols.now (source_of program.now)) }
