@@ -24,7 +24,7 @@ use Rattle.dc_front.specs.Form.{IsChecked, Spells, IsFirstOf, IsMisused, IsNotBu
 pub one-program : (text : List ℕ) (program other : Program) (symbols others : List Symbol) → Spells text program symbols → Spells text other others → (program ≡ other) × (symbols ≡ others)
 one-program text program other symbols others first second =
     let sources : source_of program ≡ source_of other = unique.one-program text (source_of program) (source_of other) first.spelled second.spelled in
-    (program-told_apart program other sources, first.symbols_are ∙ ap symbols_of sources ∙ sym second.symbols_are)
+    (program-told_apart program other sources, first.runnable.symbols_are ∙ ap symbols_of sources ∙ sym second.runnable.symbols_are)
 
 -- a program that is checked has no first broken rule of names or types
 not-misused : (source : Source) (refusal : Refusal) → IsChecked source → IsFirstOf source refusal → ⊥
@@ -42,11 +42,11 @@ one-answer text refusal program symbols refused spells =
           elim behind [
             | inl misused ↦
                 let same : misused.source ≡ source_of program = unique.one-program text misused.source (source_of program) misused.spelled spells.spelled in
-                not-misused misused.source refusal (subst IsChecked (sym same) spells.checked) misused.first
+                not-misused misused.source refusal (subst IsChecked (sym same) spells.runnable.checked) misused.first
             | inr unbuilt ↦
                 let same : unbuilt.source ≡ source_of program = unique.one-program text unbuilt.source (source_of program) unbuilt.spelled spells.spelled in
                 false≢true
-                (sym unbuilt.unbuilt ∙ ap (λ (s : Source). is_built (symbols_of s) s) same ∙ ap (λ (l : List Symbol). is_built l (source_of program)) (sym spells.symbols_are) ∙ spells.built)
+                (sym unbuilt.unbuilt ∙ ap (λ (s : Source). is_built (symbols_of s) s) same ∙ ap (λ (l : List Symbol). is_built l (source_of program)) (sym spells.runnable.symbols_are) ∙ spells.runnable.built)
           ]
     ]
 

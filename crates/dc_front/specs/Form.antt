@@ -18,12 +18,16 @@ pub record IsChecked (source : Source) : Type 0 where
   pub names : scope_findings source ≡ []
   pub types : type_findings (symbols_of source) source ≡ []
 
--- The text spells the program, which breaks no rule and is run today, and these are the symbols that it declares.
+-- The program breaks no rule and is run today, and these are the symbols that it declares.
+pub record IsRunnable (symbols : List Symbol) (source : Source) : Type 0 where
+  pub checked : IsChecked source
+  pub built : IsTrue (is_built symbols source)
+  pub symbols_are : symbols ≡ symbols_of source
+
+-- The text spells the program, which can be run, and these are the symbols that it declares.
 pub record Spells (text : List ℕ) (program : Program) (symbols : List Symbol) : Type 0 where
   pub spelled : phases.Spells text (source_of program)
-  pub checked : IsChecked (source_of program)
-  pub built : IsTrue (is_built symbols (source_of program))
-  pub symbols_are : symbols ≡ symbols_of (source_of program)
+  pub runnable : IsRunnable symbols (source_of program)
 
 -- The first rule of names that a program breaks, or of types where it breaks none of names.
 abbrev pub IsFirstOf : Source → Refusal → Type 0

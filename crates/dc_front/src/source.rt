@@ -1,9 +1,8 @@
 //! The phases of the text, names, types, and then the condition on the programs that are run today.
 
-ghost use Rattle.std.specs.Prelude.{◌≡◌, false, IsTrue};
+ghost use Rattle.std.specs.Prelude.{◌≡◌, false};
 ghost use Rattle.dc_tree.specs.Blocks.{source_of};
-ghost use Rattle.dc_tree.specs.BuiltPrograms.{is_built};
-ghost use Rattle.dc_front.specs.Form.{Answers};
+ghost use Rattle.dc_front.specs.Form.{Answers, IsRunnable};
 
 use dc_form::is_built;
 use dc_phases::read_program;
@@ -20,12 +19,10 @@ pub struct Accepted {
 }
 
 impl Model for Accepted {
-    ghost use Rattle.std.specs.Prelude.{IsTrue};
     ghost use Rattle.dc_tree.specs.Blocks.{source_of};
-    ghost use Rattle.dc_tree.specs.BuiltPrograms.{is_built};
     ghost use Rattle.dc_tree.specs.contracts.program.Program as tree;
     ghost use Rattle.dc_tree.specs.contracts.symbols.Symbol as symbol;
-    ghost use Rattle.dc_front.specs.Form.{Taken, taken_code};
+    ghost use Rattle.dc_front.specs.Form.{Taken, taken_code, IsRunnable};
 
     ghost Value = { Taken };
 
@@ -33,7 +30,7 @@ impl Model for Accepted {
 
     ghost view = { λ a. record { program = a.program; symbols = a.symbols } };
 
-    ghost invariant = { λ a. IsTrue (is_built a.symbols (source_of a.program)) };
+    ghost invariant = { λ a. IsRunnable a.symbols (source_of a.program) };
 }
 
 impl Drop for Accepted {
@@ -49,7 +46,7 @@ impl Accepted {
     /// The tree of the source.
     pub fn program(&self) -> &Program
         ensures value { result.now ≡ self.now.program }
-        ensures built { IsTrue (is_built self.now.symbols (source_of self.now.program)) }
+        ensures runnable { IsRunnable self.now.symbols (source_of self.now.program) }
     {
         &self.program
     }
@@ -57,7 +54,7 @@ impl Accepted {
     /// The declared names.
     pub fn symbols(&self) -> &Symbols
         ensures value { result.now ≡ self.now.symbols }
-        ensures built { IsTrue (is_built self.now.symbols (source_of self.now.program)) }
+        ensures runnable { IsRunnable self.now.symbols (source_of self.now.program) }
     {
         &self.symbols
     }

@@ -36,19 +36,19 @@ a_truth : shown (What.Truth false) ≡ row (codes "12 3 Truth F")
 unfolding fields number
 a_truth = refl
 
-an_operation : shown (What.Arith Op.Modulo Kind.K2) ≡ row (codes "12 3 Arith modulo 2")
+an_operation : shown (What.Arith Op.Modulo Kind.K2) ≡ row (codes "12 3 Arith Modulo 2")
 unfolding fields number
 an_operation = refl
 
-a_relation : shown (What.Compare Relation.Le) ≡ row (codes "12 3 Compare le")
+a_relation : shown (What.Compare Relation.Le) ≡ row (codes "12 3 Compare Le")
 unfolding fields number
 a_relation = refl
 
-a_folding : shown (What.Fold Folding.Count 10) ≡ row (codes "12 3 Fold count 10")
+a_folding : shown (What.Fold Folding.Count 10) ≡ row (codes "12 3 Fold Count 10")
 unfolding fields number
 a_folding = refl
 
-a_reduction : shown (What.Contribute ReduceOp.Neqv 1) ≡ row (codes "12 3 Contribute neqv 1")
+a_reduction : shown (What.Contribute ReduceOp.Neqv 1) ≡ row (codes "12 3 Contribute Neqv 1")
 unfolding fields number
 a_reduction = refl
 
@@ -62,12 +62,16 @@ no_operands = refl
 
 -- ---- other lines
 
--- a text with a blank and a line feed in it
-a_text : told_line (codes "text") text_words 0 (codes "a b" ++ 10 ∷ codes "c") ≡ row (codes "text 0 5 a b") ++ row (codes "c")
+a_text : told_line (codes "text") text_words 0 (codes "Hi") ≡ row (codes "text 0 2 72 105")
 unfolding fields number
 a_text = refl
 
-empty_text : told_line (codes "text") text_words 1 [] ≡ row (codes "text 1 0 ")
+-- a blank, a line feed, and bytes that are no characters
+any_bytes : told_line (codes "text") text_words 12 (32 ∷ 10 ∷ 0 ∷ 255 ∷ []) ≡ row (codes "text 12 4 32 10 0 255")
+unfolding fields number
+any_bytes = refl
+
+empty_text : told_line (codes "text") text_words 0 [] ≡ row (codes "text 0 0")
 unfolding fields number
 empty_text = refl
 
@@ -106,7 +110,7 @@ a_construct
       body = 14;
       localities = Locality.Local ∷ Locality.Reduce ReduceOp.Max ∷ Locality.Plain ∷ [];
     })
-    ≡ row (codes "construct 0 2 2 2 4 8 5 11 14 3 Local Reduce max Plain")
+    ≡ row (codes "construct 0 2 2 2 4 8 5 11 14 3 Local Reduce Max Plain")
 unfolding fields number
 a_construct = refl
 

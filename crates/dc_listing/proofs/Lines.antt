@@ -30,11 +30,11 @@ word-tells (byte ∷ word) (next ∷ other) r s plain also gap end same =
 
 -- ---- words with blanks in front
 
-pub fields-more : (word : Word) (words : List Word) (r : List ℕ) → fields (word ∷ words) ++ r ≡ 32 ∷ (word ++ (fields words ++ r))
+fields-more : (word : Word) (words : List Word) (r : List ℕ) → fields (word ∷ words) ++ r ≡ 32 ∷ (word ++ (fields words ++ r))
 unfolding fields
 fields-more word words r = ap (λ left. 32 ∷ left) (append_assoc word (flat_map field words) r)
 
-pub fields-none : (r : List ℕ) → fields [] ++ r ≡ r
+fields-none : (r : List ℕ) → fields [] ++ r ≡ r
 unfolding fields
 fields-none r = refl
 
@@ -43,7 +43,7 @@ pub fields-open : (words : List Word) (r : List ℕ) → opens is_gap r ≡ true
 fields-open [] r gap = ap (opens is_gap) (fields-none r) ∙ gap
 fields-open (word ∷ words) r gap = ap (opens is_gap) (fields-more word words r)
 
-pub field-tells
+field-tells
     : (word other : Word) (words others : List Word) (r s : List ℕ) → is_plain word ≡ true → is_plain other ≡ true
     → opens is_gap r ≡ true → opens is_gap s ≡ true → fields (word ∷ words) ++ r ≡ fields (other ∷ others) ++ s
     → (word ≡ other) × (fields words ++ r ≡ fields others ++ s)

@@ -12,7 +12,7 @@ use Rattle.dc_code.specs.declared.plan.DummyPlan.{DummyPlan}
 use Rattle.dc_code.specs.declared.plan.Group.{Group}
 use Rattle.dc_code.specs.declared.plan.Plan.{Plan}
 use Rattle.dc_listing.specs.Instructions.{name, operands}
-use Rattle.dc_listing.specs.Listing.{instruction_words, shape_words, dimension_words, bounds_words, dummy_words, group_words, plan_words, entry_words, index_words, header_words, parts_words, construct_words}
+use Rattle.dc_listing.specs.Listing.{instruction_words, byte_words, text_words, shape_words, dimension_words, bounds_words, dummy_words, group_words, plan_words, entry_words, index_words, header_words, parts_words, construct_words}
 use Rattle.dc_listing.specs.Words.{Word, number, signed, number_or_none, list_words, truth_word, kind_word, passing_word, locality_words}
 use Rattle.dc_listing.proofs.NamesBack.{tells-one, truth_in, kind_in, reduction_in, passing_in, truth-told, kind-told, reduction-told, passing-told}
 use Rattle.dc_listing.proofs.Plain.{is_plain, are_plain, is_digit, opens, number-opens, number_in, signed_in, number-back, signed-back, number-plain, signed-plain, both-plain, list-plain}
@@ -29,7 +29,7 @@ tells-whole words told x y same = (told.tell x y [] [] (ap (λ (all : List Word)
 
 -- ---- single words
 
-pub number-same : (m n : ℕ) → number m ≡ number n → m ≡ n
+number-same : (m n : ℕ) → number m ≡ number n → m ≡ n
 number-same m n same = sym (number-back m) ∙ ap number_in same ∙ number-back n
 
 signed-same : (y z : ℤ) → signed y ≡ signed z → y ≡ z
@@ -72,6 +72,10 @@ entry-tells = record { plain = λ n. (λ i. number-plain n i && true); tell = te
   where
     tell : (m n : ℕ) (r s : List Word) → entry_words m ++ r ≡ entry_words n ++ s → (m ≡ n) × (r ≡ s)
     tell m n r s same = let one : number m ≡ number n = cc in (number-same m n one, cc)
+
+-- a byte is a number, as an entry is
+pub text-tells : Tells text_words
+text-tells = list-tells byte_words entry-tells
 
 pub index-tells : Tells index_words
 index-tells = record { plain = λ kind. (λ i. (kind-told kind).plain i && true); tell = tell }

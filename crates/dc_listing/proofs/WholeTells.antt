@@ -1,12 +1,12 @@
 -- A listing tells its code.
-use Rattle.std.proofs.Common.{◌≡◌, ℕ, suc, Bool, true, false, ◌&&◌, List, [], ◌∷◌, ◌++◌, length, drop, refl, sym, ap, ◌∙◌, append_assoc, append-nil, arith}
+use Rattle.std.proofs.Common.{◌≡◌, ℕ, suc, Bool, true, false, ◌&&◌, List, [], ◌∷◌, ◌++◌, drop, refl, sym, ap, ◌∙◌, append_assoc, append-nil}
 use Rattle.std.specs.Prelude.{codes, ◌==◌}
 use Rattle.dc_code.specs.declared.instr.Instr.{Instr}
 use Rattle.dc_code.specs.Codes.{CodeLists}
 use Rattle.dc_listing.specs.Listing.{section, instruction_line, told_line, instruction_words, text_words, shape_words, bounds_words, plan_words, entry_words, construct_words, listing}
 use Rattle.dc_listing.specs.Words.{Word, fields, number}
-use Rattle.dc_listing.proofs.Lines.{field-tells, fields-more, fields-none, line-is, line-tells}
-use Rattle.dc_listing.proofs.PartsTell.{Tells, tells-whole, number-same, shape-tells, bounds-tell, plan-tells, entry-tells, construct-tells, instruction-plain, instruction-same}
+use Rattle.dc_listing.proofs.Lines.{line-is, line-tells}
+use Rattle.dc_listing.proofs.PartsTell.{Tells, tells-whole, text-tells, shape-tells, bounds-tell, plan-tells, entry-tells, construct-tells, instruction-plain, instruction-same}
 use Rattle.dc_listing.proofs.Plain.{is_plain, are_plain, is_digit, opens, number-opens, number-plain}
 
 -- ---- sections
@@ -57,34 +57,6 @@ told-line-tells word words plain told k x y r s same =
     let parts = line-tells word (number k ∷ words x) (number k ∷ words y) r s plain one two same in
     let left : words x ≡ words y = ap (drop 1) parts.0 in
     (tells-whole words told x y left, parts.1)
-
--- the same bytes in front, of two texts of one length
-same-length : (text other r s : List ℕ) → length text ≡ length other → text ++ r ≡ other ++ s → (text ≡ other) × (r ≡ s)
-same-length [] [] r s count same = (refl, same)
-same-length [] (byte ∷ other) r s count same = absurd (omega (arith, count))
-same-length (byte ∷ text) [] r s count same = absurd (omega (arith, count))
-same-length (byte ∷ text) (next ∷ other) r s count same =
-    let first : byte ≡ next = cc in
-    let left : text ++ r ≡ other ++ s = cc in
-    let rest = same-length text other r s (omega (arith, count)) left in
-    ((λ i. first i ∷ rest.0 i), rest.1)
-
-text-line-tells
-    : (k : ℕ) (x y r s : List ℕ) → told_line (codes "text") text_words k x ++ r ≡ told_line (codes "text") text_words k y ++ s → (x ≡ y) × (r ≡ s)
-text-line-tells k x y r s same =
-    let count = length x in
-    let other = length y in
-    let word : Word = codes "text" in
-    let whole
-    : word ++ (fields (number k ∷ number count ∷ x ∷ []) ++ 10 ∷ r) ≡ word ++ (fields (number k ∷ number other ∷ y ∷ []) ++ 10 ∷ s) =
-    sym (line-is word (number k ∷ number count ∷ x ∷ []) r) ∙ same ∙ line-is word (number k ∷ number other ∷ y ∷ []) s in
-    let one = ap (drop 4) whole in
-    let two = field-tells (number k) (number k) (number count ∷ x ∷ []) (number other ∷ y ∷ []) (10 ∷ r) (10 ∷ s) (number-plain k) (number-plain k) refl refl one in
-    let three = field-tells (number count) (number other) (x ∷ []) (y ∷ []) (10 ∷ r) (10 ∷ s) (number-plain count) (number-plain other) refl refl two.1 in
-    let four = ap (drop 1) (sym (fields-more x [] (10 ∷ r)) ∙ three.1 ∙ fields-more y [] (10 ∷ s)) in
-    let five = same-length x y (fields [] ++ 10 ∷ r) (fields [] ++ 10 ∷ s) (number-same count other three.0) four in
-    let six : 10 ∷ r ≡ 10 ∷ s = sym (fields-none (10 ∷ r)) ∙ five.1 ∙ fields-none (10 ∷ s) in
-    (five.0, ap (drop 1) six)
 
 instruction-line-tells
     : (k : ℕ) (x y : Instr) (r s : List ℕ) → instruction_line k x ++ r ≡ instruction_line k y ++ s → (x ≡ y) × (r ≡ s)
@@ -174,7 +146,7 @@ listing-tells first second same =
     (no-texts is_digit first refl refl refl refl refl refl) (no-texts is_digit second refl refl refl refl refl refl)
     (sym (listing-is first) ∙ same ∙ listing-is second) in
     let texts =
-    section-tells (first_is 116) (told_line (codes "text") text_words) (record { begin = λ k x r. refl; tell = text-line-tells }) 0 first.texts second.texts (from_shapes first) (from_shapes second)
+    section-tells (first_is 116) (told_line (codes "text") text_words) (record { begin = λ k x r. refl; tell = told-line-tells (codes "text") text_words refl text-tells }) 0 first.texts second.texts (from_shapes first) (from_shapes second)
     (no-shapes (first_is 116) first refl refl refl refl refl) (no-shapes (first_is 116) second refl refl refl refl refl) instructions.1 in
     let shapes =
     section-tells (first_is 115) (told_line (codes "shape") shape_words) (record { begin = λ k x r. refl; tell = told-line-tells (codes "shape") shape_words refl shape-tells }) 0 first.shapes second.shapes (from_bounds first) (from_bounds second)

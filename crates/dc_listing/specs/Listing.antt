@@ -1,7 +1,7 @@
 -- A code as text. Its instructions come first, a line each: the place, the line of the source, the name and the
 -- operands. Then there is a line for each text, shape, list of bounds, plan, entry and construct: the word for it, its
 -- number, and its parts. This project's own.
-use Rattle.std.specs.Prelude.{ℕ, suc, List, [], ◌∷◌, ◌++◌, length, ℤ, codes}
+use Rattle.std.specs.Prelude.{ℕ, suc, List, [], ◌∷◌, ◌++◌, ℤ, codes}
 use Rattle.dc_int.specs.declared.kind.Kind.{Kind}
 use Rattle.dc_int.specs.declared.variable.Shape.{Shape}
 use Rattle.dc_int.specs.Store.{Bounds}
@@ -19,9 +19,12 @@ use Rattle.dc_listing.specs.Words.{Word, line, number, signed, number_or_none, l
 abbrev pub instruction_words : Instr → List Word
 instruction_words instruction = number instruction.line ∷ name instruction.what ∷ operands instruction.what
 
--- How many bytes a text has, and these bytes, whatever they are.
+abbrev pub byte_words : ℕ → List Word
+byte_words byte = number byte ∷ []
+
+-- a text by its bytes, whatever they are
 abbrev pub text_words : List ℕ → List Word
-text_words text = number (length text) ∷ text ∷ []
+text_words text = list_words byte_words text
 
 abbrev pub shape_words : Shape → List Word
 shape_words shape = kind_word shape.kind ∷ truth_word shape.logical ∷ number shape.elements ∷ []

@@ -27,30 +27,30 @@ pub(crate) fn operation_word(op: Op) -> &'static [u8]
     ensures { result.now ≡ operation_word op }
 {
     match op {
-        Op::Add => b"add",
-        Op::Sub => b"sub",
-        Op::Mul => b"mul",
-        Op::Neg => b"neg",
-        Op::Abs => b"abs",
-        Op::Div => b"div",
-        Op::Mod => b"mod",
-        Op::Modulo => b"modulo",
-        Op::Pow => b"pow",
-        Op::Min => b"min",
-        Op::Max => b"max",
-        Op::Sign => b"sign",
-        Op::Dim => b"dim",
-        Op::Iand => b"iand",
-        Op::Ior => b"ior",
-        Op::Ieor => b"ieor",
-        Op::Not => b"not",
-        Op::Ishft => b"ishft",
-        Op::Shiftl => b"shiftl",
-        Op::Shiftr => b"shiftr",
-        Op::Shifta => b"shifta",
-        Op::Ibset => b"ibset",
-        Op::Ibclr => b"ibclr",
-        Op::Popcnt => b"popcnt",
+        Op::Add => b"Add",
+        Op::Sub => b"Sub",
+        Op::Mul => b"Mul",
+        Op::Neg => b"Neg",
+        Op::Abs => b"Abs",
+        Op::Div => b"Div",
+        Op::Mod => b"Mod",
+        Op::Modulo => b"Modulo",
+        Op::Pow => b"Pow",
+        Op::Min => b"Min",
+        Op::Max => b"Max",
+        Op::Sign => b"Sign",
+        Op::Dim => b"Dim",
+        Op::Iand => b"Iand",
+        Op::Ior => b"Ior",
+        Op::Ieor => b"Ieor",
+        Op::Not => b"Not",
+        Op::Ishft => b"Ishft",
+        Op::Shiftl => b"Shiftl",
+        Op::Shiftr => b"Shiftr",
+        Op::Shifta => b"Shifta",
+        Op::Ibset => b"Ibset",
+        Op::Ibclr => b"Ibclr",
+        Op::Popcnt => b"Popcnt",
     }
 }
 
@@ -58,17 +58,17 @@ pub(crate) fn reduction_word(op: ReduceOp) -> &'static [u8]
     ensures { result.now ≡ reduction_word op }
 {
     match op {
-        ReduceOp::Add => b"add",
-        ReduceOp::Mul => b"mul",
-        ReduceOp::And => b"and",
-        ReduceOp::Or => b"or",
-        ReduceOp::Eqv => b"eqv",
-        ReduceOp::Neqv => b"neqv",
-        ReduceOp::Max => b"max",
-        ReduceOp::Min => b"min",
-        ReduceOp::Iand => b"iand",
-        ReduceOp::Ior => b"ior",
-        ReduceOp::Ieor => b"ieor",
+        ReduceOp::Add => b"Add",
+        ReduceOp::Mul => b"Mul",
+        ReduceOp::And => b"And",
+        ReduceOp::Or => b"Or",
+        ReduceOp::Eqv => b"Eqv",
+        ReduceOp::Neqv => b"Neqv",
+        ReduceOp::Max => b"Max",
+        ReduceOp::Min => b"Min",
+        ReduceOp::Iand => b"Iand",
+        ReduceOp::Ior => b"Ior",
+        ReduceOp::Ieor => b"Ieor",
     }
 }
 
@@ -76,12 +76,12 @@ pub(crate) fn relation_word(relation: Relation) -> &'static [u8]
     ensures { result.now ≡ relation_word relation }
 {
     match relation {
-        Relation::Eq => b"eq",
-        Relation::Ne => b"ne",
-        Relation::Lt => b"lt",
-        Relation::Le => b"le",
-        Relation::Gt => b"gt",
-        Relation::Ge => b"ge",
+        Relation::Eq => b"Eq",
+        Relation::Ne => b"Ne",
+        Relation::Lt => b"Lt",
+        Relation::Le => b"Le",
+        Relation::Gt => b"Gt",
+        Relation::Ge => b"Ge",
     }
 }
 
@@ -89,10 +89,10 @@ pub(crate) fn folding_word(folding: Folding) -> &'static [u8]
     ensures { result.now ≡ folding_word folding }
 {
     match folding {
-        Folding::Sum => b"sum",
-        Folding::Count => b"count",
-        Folding::Any => b"any",
-        Folding::All => b"all",
+        Folding::Sum => b"Sum",
+        Folding::Count => b"Count",
+        Folding::Any => b"Any",
+        Folding::All => b"All",
     }
 }
 

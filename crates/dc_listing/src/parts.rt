@@ -1,7 +1,7 @@
 //! The words of each part of a code.
 
 ghost use Rattle.std.specs.Prelude.{◌≡◌, ◌++◌, ◌∷◌, [], OnOk};
-ghost use Rattle.dc_listing.specs.Listing.{text_words, shape_words, dimension_words, dummy_words, group_words, plan_words};
+ghost use Rattle.dc_listing.specs.Listing.{byte_words, text_words, shape_words, dimension_words, dummy_words, group_words, plan_words};
 ghost use Rattle.dc_listing.specs.Listing.{entry_words, index_words, header_words, parts_words, construct_words};
 ghost use Rattle.dc_listing.specs.Words.{fields, number_or_none, list_words, locality_words};
 
@@ -47,13 +47,19 @@ impl<T: Listed> Listed for DcList<T> {
     }
 }
 
+impl Listed for u8 {
+    ghost words = { byte_words };
+
+    fn put(&self, text: &mut DcText) -> Result<(), NoMemory> {
+        put_number(text, u64::from(*self))
+    }
+}
+
 impl Listed for DcText {
     ghost words = { text_words };
 
-    #[tactic(auto, using(crate::proofs::Fields::adding))]
     fn put(&self, text: &mut DcText) -> Result<(), NoMemory> {
-        put_number(text, self.len() as u64)?;
-        put_word(text, self.as_bytes())
+        put_list(text, self.as_bytes())
     }
 }
 

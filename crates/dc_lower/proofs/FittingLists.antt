@@ -13,19 +13,22 @@ use Rattle.dc_code.specs.CodeForms.{locality_in}
 use Rattle.dc_code.specs.WellFormed.{is_open, local_groups, bounds_fit, construct_fits}
 use Rattle.dc_tree.specs.declared.symbols.Role as roles
 use Rattle.dc_tree.specs.declared.symbols.Symbol.{Symbol}
-use Rattle.dc_tree.specs.Blocks.{Items, plain, none, and_then}
+use Rattle.dc_tree.specs.Blocks.{Items, Source, plain, none, and_then}
 use Rattle.dc_tree.specs.BuiltPrograms.{elements_of_all}
-use Rattle.dc_tree.specs.Entities.{Entity, outside, Scope, entity}
+use Rattle.dc_tree.specs.Entities.{Entity, outside, Scope, entity, main_scope}
 use Rattle.dc_tree.specs.Statements.{Name, Deed, fill, Statement, act}
 use Rattle.dc_tree.specs.Typing.{sort_of_entity}
 use Rattle.dc_meaning.specs.Concurrent.{Outside, Concurrent, Surroundings, locality_of}
-use Rattle.dc_meaning.specs.Programs.{outsides_from}
+use Rattle.dc_meaning.specs.Execution.{loops_in_all}
+use Rattle.dc_meaning.specs.Programs.{outsides_from, surroundings, program_loops}
+use Rattle.dc_meaning.proofs.Passing.{built-source}
 use Rattle.dc_lower.specs.Assigning.{kept_group, all_usable, takes_list}
 use Rattle.dc_lower.specs.Blocks.{groups_of_deed, groups_of_says, groups_of_block, deed_is_lowered, says_is_lowered, item_is_lowered, block_is_lowered}
-use Rattle.dc_lower.specs.Lowered.{shape_of, loop_code, plans_of_loops, construct_at, constructs_from}
+use Rattle.dc_lower.specs.Lowerable.{IsLowerable}
+use Rattle.dc_lower.specs.Lowered.{shape_of, loop_code, plans_of_loops, construct_at, constructs_from, main_code, lowered}
 use Rattle.dc_lower.proofs.Facts.{both-hold, both-true}
 use Rattle.dc_lower.proofs.RunsOfStatements.{HoldsNames}
-use Rattle.dc_lower.proofs.SimpleLoops.{AreSimple}
+use Rattle.dc_lower.proofs.SimpleLoops.{AreSimple, all-counted}
 use Rattle.std.proofs.lemmas.List.{length-map}
 use Rattle.dc_lower.proofs.Subscripts.{kept-bounds, counted_elements}
 use Rattle.dc_lower.proofs.LoopShapes.{all-plain, plain_ones}
@@ -105,6 +108,14 @@ as-many-plans within at (loop ∷ loops) = ap (λ n. suc (suc n)) (as-many-plans
 pub as-many-constructs : (within : Surroundings) (at : ℕ) (loops : List Concurrent) → length (constructs_from within at loops) ≡ length loops
 as-many-constructs within at [] = refl
 as-many-constructs within at (loop ∷ loops) = ap suc (as-many-constructs within (at + length (loop_code within loop)) loops)
+
+-- The code has as many loops as its program, for however many turns.
+pub as-many-loops : (symbols : List Symbol) (source : Source) → IsLowerable symbols source → (turns : ℕ) → length (lowered symbols source).constructs ≡ length (program_loops symbols source turns)
+as-many-loops symbols source is turns =
+    as-many-constructs (surroundings symbols source 0) (length (main_code symbols source)) (program_loops symbols source 0) ∙ sym (counted 0) ∙ counted turns
+  where
+    counted : (turns : ℕ) → loops_in_all source.body ≡ length (program_loops symbols source turns)
+    counted turns = all-counted (surroundings symbols source turns) (main_scope symbols) 0 source.body (built-source symbols source is.built).body
 
 pub constructs-fit : (within : Surroundings) (scope : Scope) (at : ℕ) (loops : List Concurrent) → AreSimple scope loops
     → list_all (construct_fits (length (map shape_of within.outsides))) (constructs_from within at loops) ≡ true

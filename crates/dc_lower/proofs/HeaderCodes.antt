@@ -1,5 +1,6 @@
 -- The code of a header leaves the limits and the step that the header means.
 use Rattle.std.proofs.Common.{◌≡◌, ℕ, suc, ◌+◌, true, List, [], ◌∷◌, ◌++◌, length, None, refl, sym, ap, ◌∙◌, subst, append_assoc, append-nil}
+use Rattle.std.proofs.lemmas.List.{reverse-reverse}
 use Rattle.std.specs.Int.{int_wrap}
 use Rattle.std.specs.Prelude.{ℤ, pos, reverse}
 use Rattle.dc_int.specs.declared.kind.Kind.{Kind}
@@ -11,19 +12,21 @@ use Rattle.dc_code.specs.Codes.{CodeLists}
 use Rattle.dc_code.specs.CodeForms.{spans_in}
 use Rattle.dc_code.specs.Combinations.{Span}
 use Rattle.dc_code.specs.Computation.{give, sequence}
-use Rattle.dc_code.specs.Frames.{Frame, pushed}
+use Rattle.dc_code.specs.Frames.{Frame, pushed, with_stack}
 use Rattle.dc_code.specs.Machine.{machine}
 use Rattle.dc_code.specs.Troubles.{Computing}
-use Rattle.dc_code.proofs.Sequences.{sequence-then}
+use Rattle.dc_code.proofs.Sequences.{sequence-then, same-then}
 use Rattle.dc_tree.specs.Entities.{Scope}
 use Rattle.dc_tree.specs.Statements.{Ranging}
 use Rattle.dc_meaning.specs.Acts.{State, just, for_each}
 use Rattle.dc_meaning.specs.Execution.{span_of, step_value, checked_span}
 use Rattle.dc_meaning.specs.Values.{Callee, value}
 use Rattle.dc_lower.specs.Expressions.{value_code, is_usable}
+use Rattle.dc_lower.specs.Heading.{items_of, stack_of}
 use Rattle.dc_lower.specs.Lowered.{step_code, limits_code}
 use Rattle.dc_lower.specs.Placed.{StandAt, HaveNames}
 use Rattle.dc_lower.proofs.Going.{machine-goes, machine-step}
+use Rattle.dc_lower.proofs.OperatorLaws.{gives-unit, sequence-give}
 use Rattle.dc_lower.proofs.PartLaws.{all-values-left}
 use Rattle.dc_lower.proofs.Placing.{stand-left, stand-right, stand-rest, stand-first, stepped}
 
@@ -41,6 +44,34 @@ one-wrapped Kind.K8 = refl
 one-checked : (line : ℕ) (its_kind : Kind) (first last : ℤ)
     → checked_span line (record { first = fitted (whole its_kind) first; last = fitted (whole its_kind) last; step = fitted (whole its_kind) (pos 1) }) ≡ just (spanning its_kind first last)
 one-checked line its_kind first last = ap (λ step. checked_span line (record { first = wrapped its_kind first; last = wrapped its_kind last; step = step })) (one-wrapped its_kind)
+
+-- ---- spans on the stack
+
+-- A frame with spans alone on its stack, and the turns left.
+abbrev pub left_on : Frame → List Span × ℕ → Computing (Frame × ℕ)
+left_on frame w = give (with_stack (stack_of w.0) frame, w.1)
+
+spans-of-items : (spans : List Span) → spans_in (items_of spans) ≡ spans
+spans-of-items [] = refl
+spans-of-items (span ∷ spans) = ap (λ found. span ∷ found) (spans-of-items spans)
+
+-- The spans of a stack are found again.
+pub spans-of-stack : (spans : List Span) → spans_in (reverse (stack_of spans)) ≡ spans
+spans-of-stack spans = ap spans_in (reverse-reverse (items_of spans)) ∙ spans-of-items spans
+
+-- So a run that leaves the spans of a header tells what the header does.
+pub found-again : (frame : Frame) (header : Computing (List Span × ℕ)) (run : Computing (Frame × ℕ)) → run ≡ sequence header (left_on frame)
+    → sequence run (λ w. give (spans_in (reverse (w.0).stack), w.1)) ≡ header
+found-again frame header run leaves =
+    ap (λ c. sequence c told) leaves
+    ∙ sequence-then header (left_on frame) told
+    ∙ same-then (λ w. Unit {0}) header (λ w. give (spans_in (reverse (stack_of w.0)), w.1)) (λ w. give w) (gives-unit header) (λ w any. ap (λ (spans : List Span). give (spans, w.1)) (spans-of-stack w.0))
+    ∙ sequence-give header
+  where
+    told : Frame × ℕ → Computing (List Span × ℕ)
+    told w = give (spans_in (reverse (w.0).stack), w.1)
+
+-- ---- the code
 
 module _ (scope : Scope) (call : Callee) (line : ℕ) (its_kind : Kind) (ranging : Ranging) (none : ranging.step ≡ None) where
   -- what follows both limits
@@ -107,17 +138,15 @@ module _ (scope : Scope) (call : Callee) (line : ℕ) (its_kind : Kind) (ranging
         (λ w. sequence (value scope call line ranging.last w.1) (λ v. give (left_with frame w.0 v.0, (v.1).turns)))
         (λ a. behind-first (at + length first) a (stand-right at first behind_first whole_stand))
 
-    -- Where the stack was empty the spans are found on it.
+    abbrev meant : Sort → Computing (List Span × ℕ)
+    meant sort = sequence (for_each (span_of scope call line sort) (ranging ∷ []) state) (λ w. give (w.0, (w.1).turns))
+
+    -- Where the stack was empty the spans stand on it, and the frame is otherwise as it was.
     pub header-law : (at : ℕ) (sort : Sort) → sort ≡ whole its_kind → frame.stack ≡ [] → StandAt code line at ((limits_code scope its_kind ranging ++ []) ++ What.End ∷ [])
-        → sequence {B = List Span × ℕ} (machine code at frame state.turns) (λ w. give (spans_in (reverse (w.0).stack), w.1))
-        ≡ sequence (for_each (span_of scope call line sort) (ranging ∷ []) state) (λ w. give (w.0, (w.1).turns))
+        → machine code at frame state.turns ≡ sequence (meant sort) (left_on frame)
     header-law at sort sorted empty stand =
-        ap (λ c. sequence c told) (limits-law at stand)
-        ∙ sequence-then (value scope call line ranging.first state) (λ w. sequence (value scope call line ranging.last w.1) (λ v. give (left_with frame w.0 v.0, (v.1).turns))) told
-        ∙ (λ i. sequence (value scope call line ranging.first state) (λ w. sequence-then (value scope call line ranging.last w.1) (λ v. give (left_with frame w.0 v.0, (v.1).turns)) told i))
-        ∙ (λ i. Between state (λ a b after. give (spans_in (reverse (Item.Value (pos 1) ∷ Item.Value (wrapped its_kind b) ∷ Item.Value (wrapped its_kind a) ∷ empty i)), after.turns)))
-        ∙ sym (span-between sort sorted state (λ w. give (w.0 ∷ [], (w.1).turns)))
-        ∙ sym (sequence-then (span_of scope call line sort ranging state) (λ w. give (w.0 ∷ [], w.1)) (λ w. give (w.0, (w.1).turns)))
-      where
-        told : Frame × ℕ → Computing (List Span × ℕ)
-        told w = give (spans_in (reverse (w.0).stack), w.1)
+        limits-law at stand
+        ∙ (λ i. Between state (λ a b after. give (with_stack (Item.Value (pos 1) ∷ Item.Value (wrapped its_kind b) ∷ Item.Value (wrapped its_kind a) ∷ empty i) frame, after.turns)))
+        ∙ sym (span-between sort sorted state (λ w. left_on frame (w.0 ∷ [], (w.1).turns)))
+        ∙ sym (sequence-then (span_of scope call line sort ranging state) (λ w. give (w.0 ∷ [], w.1)) (λ w. left_on frame (w.0, (w.1).turns)))
+        ∙ sym (sequence-then (for_each (span_of scope call line sort) (ranging ∷ []) state) (λ w. give (w.0, (w.1).turns)) (left_on frame))

@@ -3,6 +3,7 @@ pub mod Alike
 pub mod AssignmentLaws
 pub mod BlockLaws
 pub mod Blocking
+pub mod CodesOf
 pub mod Converting
 pub mod Declaring
 pub mod Deeds

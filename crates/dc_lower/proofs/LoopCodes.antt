@@ -13,7 +13,7 @@ use Rattle.dc_code.specs.declared.plan.ConstructCode.{ConstructCode}
 use Rattle.dc_code.specs.declared.plan.Group.{Group}
 use Rattle.dc_code.specs.declared.plan.Plan.{Plan}
 use Rattle.dc_code.specs.Codes.{CodeLists, blank, blank_slots, plan_or_none, plan_numbered, plan_at}
-use Rattle.dc_code.specs.CodeForms.{frame_with, form_in}
+use Rattle.dc_code.specs.CodeForms.{frame_with}
 use Rattle.dc_code.specs.Combinations.{Span}
 use Rattle.dc_code.specs.Computation.{give, sequence}
 use Rattle.dc_code.specs.Frames.{Frame}
@@ -43,7 +43,7 @@ use Rattle.dc_lower.specs.Lowered.{limits_code, index_group, header_code, body_c
 use Rattle.dc_lower.specs.Placed.{HaveNames, HaveKept, IsGroup}
 use Rattle.dc_lower.specs.Typed.{limits_are_typed, block_is_typed}
 use Rattle.dc_lower.specs.Expressions.{is_usable}
-use Rattle.dc_lower.proofs.HeaderCodes.{header-law}
+use Rattle.dc_lower.proofs.HeaderCodes.{left_on, header-law}
 use Rattle.dc_lower.proofs.LoopShapes.{all-at, no-texts, numbered}
 use Rattle.dc_lower.proofs.MainNames.{Named, named-names}
 use Rattle.dc_lower.proofs.MainPrograms.{blank-at, scope-named, main-names}
@@ -226,10 +226,11 @@ module _ (symbols : List Symbol) (source : Source) (is : IsLowerable symbols sou
   meant call index turns =
       inside_frame [] turns (for_each (λ index. span_of (main_scope symbols) call head.line (index_sort (main_scope symbols) None index) index) (index ∷ [])) (λ spans left. (spans, left))
 
-  pub limits-here : (call : Callee) (counted turns : ℕ) (index : Ranging) → ranging ≡ index → (form_in code counted construct).header turns ≡ meant call index turns
-  limits-here call counted turns index same =
+  pub limits-here : (call : Callee) (turns : ℕ) (index : Ranging) → ranging ≡ index
+      → machine code construct.header (new_frame code construct.header) turns ≡ sequence (meant call index turns) (left_on (new_frame code construct.header))
+  limits-here call turns index same =
       header-law (main_scope symbols) call head.line its_kind ranging here.built.step code (main-names symbols source is) first-usable last-usable
       (new_frame code construct.header) (inside [] turns) construct.header (sort_of_entity (entity (main_scope symbols) ranging.name))
       (whole-sort (entity (main_scope symbols) ranging.name) here.built.index) refl
       (lined-stand head.line ((limits_code (main_scope symbols) its_kind ranging ++ []) ++ What.End ∷ []) header-stand)
-      ∙ ap (λ r. meant call r turns) same
+      ∙ ap (λ r. sequence (meant call r turns) (left_on (new_frame code construct.header))) same

@@ -8,7 +8,7 @@ use Rattle.dc_code.specs.Codes.{CodeLists}
 use Rattle.dc_code.specs.CodeForms.{frame_with, locality_in, is_copied, is_combined, form_in, body_run, no_form, code_forms}
 use Rattle.dc_code.specs.Computation.{give, sequence}
 use Rattle.dc_code.specs.Loops.{Copies}
-use Rattle.dc_code.specs.Machine.{machine}
+use Rattle.dc_code.specs.Machine.{machine, new_frame}
 use Rattle.dc_tree.specs.declared.symbols.Symbol.{Symbol}
 use Rattle.dc_tree.specs.Blocks.{Line, Items, Source}
 use Rattle.dc_tree.specs.Entities.{entity, main_scope}
@@ -23,8 +23,10 @@ use Rattle.dc_meaning.proofs.Looping.{concurrent-with, LoopAt, IsLoop, scope-is,
 use Rattle.dc_meaning.proofs.Passing.{loops-in, loop-at, found-at, form-is}
 use Rattle.dc_meaning.proofs.Visitable as visitable
 use Rattle.dc_lower.specs.Agreeing.{SameForm, HasNoIteration}
+use Rattle.dc_lower.specs.Heading.{HasHeader}
 use Rattle.dc_lower.specs.Lowerable.{IsLowerable}
 use Rattle.dc_lower.specs.Lowered.{loop_code, constructs_from, main_code, lowered}
+use Rattle.dc_lower.proofs.HeaderCodes.{left_on, found-again}
 use Rattle.dc_lower.proofs.LoopCodes.{construct, construct-at, here, scope, limits-here, iteration-law}
 use Rattle.dc_lower.proofs.LoopShapes.{all-plain, no-elements, no-slots, no-locals, same-kind, none-passed, one-index}
 use Rattle.dc_lower.proofs.MainNames.{named-whole}
@@ -66,6 +68,14 @@ module _ (symbols : List Symbol) (source : Source) (is : IsLowerable symbols sou
   block-same-at copies (z ∷ []) one = block-same copies z
   block-same-at copies (z ∷ y ∷ rest) one = cc
 
+  header-left : (left : ℕ) → machine code planned.header (new_frame code planned.header) left ≡ sequence ((form_of within loop []).header left) (left_on (new_frame code planned.header))
+  header-left left =
+      let first = (here symbols source is number head body nth).built in
+      limits-here symbols source is number head body nth within.call left there.built.ranging (one-index head.says first.ranging there.built.ranging first.is there.built.is)
+
+  pub header-here : HasHeader code number (form_of within loop [])
+  header-here = record { construct = planned; there = construct-at symbols source is number head body nth; leaves = header-left }
+
   pub form-same : SameForm 1 (form_in code turns planned) (form_of within loop [])
   form-same = record {
     line = refl;
@@ -74,32 +84,53 @@ module _ (symbols : List Symbol) (source : Source) (is : IsLowerable symbols sou
     passed = λ variable. sym (none-passed within loop (λ text. named-whole code no_inner (entity (main_scope symbols) text) (scope-named symbols source is no_inner text)) variable);
     copied = no-elements is_copied refl code planned plain-here ∙ sym (copies-form within symbols there.counted head body there.built []);
     combines = no-elements is_combined refl code planned plain-here ∙ sym (combines-form within symbols there.counted head body there.built []);
-    header = λ left. limits-here symbols source is number head body nth within.call turns left there.built.ranging
-        (one-index head.says (here symbols source is number head body nth).built.ranging there.built.ranging (here symbols source is number head body nth).built.is there.built.is);
+    header = λ left. found-again (new_frame code planned.header) ((form_of within loop []).header left) (machine code planned.header (new_frame code planned.header) left) (header-left left);
     mask = λ at one. refl;
     block = block-same-at;
   }
 
--- Each loop of the program is that of the code.
-pub forms-law : (symbols : List Symbol) (source : Source) → IsLowerable symbols source → (turns number : ℕ) (loop : Concurrent) → slice_get (program_loops symbols source turns) number ≡ Some loop
-    → SameForm (length loop.indexes) (code_forms (lowered symbols source) turns number []) (program_forms symbols source turns number [])
-forms-law symbols source is turns number asked e = by (nth_loop number source.body) refl
-  where
-    code-form : (head : Line) (body : Items) (nth : Some (head, body) ≡ nth_loop number source.body) → code_forms (lowered symbols source) turns number [] ≡ form_in (lowered symbols source) turns (construct symbols source is number head body nth)
-    code-form head body nth = rw (construct-at symbols source is number head body nth) refl
+-- ---- by their numbers
 
-    by : (found : Option (Line × Items)) → found ≡ nth_loop number source.body → SameForm (length asked.indexes) (code_forms (lowered symbols source) turns number []) (program_forms symbols source turns number [])
-    by None nth = absurd (none-some asked (sym (subst (IsLoop (main_scope symbols) (loops-in symbols source turns) number) (sym nth) (found-at symbols source is.built number turns)) ∙ e))
-    by (Some (head, body)) nth =
-        let at = there symbols source is turns number head body nth in
-        let found = loop symbols source is turns number head body nth in
-        let within = surroundings symbols source turns in
-        let one : 1 ≡ length asked.indexes = ap (λ (l : Concurrent). length l.indexes) (same_Some found asked (sym at.at ∙ e)) in
-        let both = form-same symbols source is turns number head body nth in
-        let program_form = form-is symbols source turns number [] (Some found) at.at in
-        subst (λ width. SameForm width (code_forms (lowered symbols source) turns number []) (program_forms symbols source turns number [])) one
-        (subst (λ form. SameForm 1 form (program_forms symbols source turns number [])) (sym (code-form head body nth))
-        (subst (λ form. SameForm 1 (form_in (lowered symbols source) turns (construct symbols source is number head body nth)) form) (sym program_form) both))
+-- The place of a loop in the text of its program.
+record Place (source : Source) (number : ℕ) : Type 0 where
+  pub head : Line
+  pub body : Items
+  pub nth : Some (head, body) ≡ nth_loop number source.body
+
+module _ (symbols : List Symbol) (source : Source) (is : IsLowerable symbols source) (turns number : ℕ) (asked : Concurrent) (e : slice_get (program_loops symbols source turns) number ≡ Some asked) where
+  placed : (found : Option (Line × Items)) → found ≡ nth_loop number source.body → Place source number
+  placed None nth = absurd (none-some asked (sym (subst (IsLoop (main_scope symbols) (loops-in symbols source turns) number) (sym nth) (found-at symbols source is.built number turns)) ∙ e))
+  placed (Some (head, body)) nth = record { head = head; body = body; nth = nth }
+
+  abbrev place : Place source number
+  place = placed (nth_loop number source.body) refl
+
+  abbrev found : Concurrent
+  found = loop symbols source is turns number place.head place.body place.nth
+
+  abbrev planned_here : ConstructCode
+  planned_here = construct symbols source is number place.head place.body place.nth
+
+  found-there : slice_get (program_loops symbols source turns) number ≡ Some found
+  found-there = (there symbols source is turns number place.head place.body place.nth).at
+
+  program-form : form_of (surroundings symbols source turns) found [] ≡ program_forms symbols source turns number []
+  program-form = sym (form-is symbols source turns number [] (Some found) found-there)
+
+  code-form : form_in (lowered symbols source) turns planned_here ≡ code_forms (lowered symbols source) turns number []
+  code-form = rw (construct-at symbols source is number place.head place.body place.nth) refl
+
+  -- The header of each loop leaves what it means.
+  pub has-header : HasHeader (lowered symbols source) number (program_forms symbols source turns number [])
+  has-header = subst (HasHeader (lowered symbols source) number) program-form (header-here symbols source is turns number place.head place.body place.nth)
+
+  -- Each loop of the program is that of the code.
+  pub forms-law : SameForm (length asked.indexes) (code_forms (lowered symbols source) turns number []) (program_forms symbols source turns number [])
+  forms-law =
+      let one : 1 ≡ length asked.indexes = ap (λ (l : Concurrent). length l.indexes) (same_Some found asked (sym found-there ∙ e)) in
+      subst (λ width. SameForm width (code_forms (lowered symbols source) turns number []) (program_forms symbols source turns number [])) one
+      (subst (λ form. SameForm 1 form (program_forms symbols source turns number [])) code-form
+      (subst (λ form. SameForm 1 (form_in (lowered symbols source) turns planned_here) form) program-form (form-same symbols source is turns number place.head place.body place.nth)))
 
 -- ---- where there is no loop
 

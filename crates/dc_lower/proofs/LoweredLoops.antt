@@ -28,6 +28,7 @@ use Rattle.dc_lower.specs.Held.{is_held_index, is_held_step}
 use Rattle.dc_lower.specs.Lowered.{shape_of, limits_code, header_code, body_code, loop_code, loops_code, no_slots, index_group, body_plan, plans_of_loops, construct_at, constructs_from}
 use Rattle.dc_lower.specs.Variables.{outsides_of, shapes_of}
 use Rattle.dc_lower.specs.Wholes.{within_of, AddsLoops, loops_at, loops_behind, loop_at, plain_localities}
+use Rattle.dc_lower.proofs.FittingLists.{as-many-constructs}
 
 -- ---- localities
 
@@ -132,10 +133,6 @@ module _ (within : Surroundings) where
       (constructs-both (at + length one) first second
       ∙ ap (λ n. constructs_from within (at + length one) first ++ constructs_from within n second) same)
 
-  constructs-count : (at : ℕ) (loops : List Concurrent) → length (constructs_from within at loops) ≡ length loops
-  constructs-count at [] = refl
-  constructs-count at (found ∷ loops) = ap (λ n. suc n) (constructs-count (at + length (loop_code within found)) loops)
-
 module _ (symbols : List Symbol) where
   adds-both : (before between after : Lists) (first second : List Concurrent) → AddsLoops symbols before between first → AddsLoops symbols between after second → AddsLoops symbols before after (first ++ second)
   adds-both before between after first second one two =
@@ -166,7 +163,7 @@ module _ (symbols : List Symbol) where
       let here = loops_at symbols (length before.constructs) first in
       let count : length between.constructs ≡ length before.constructs + length here =
       ap length one.constructs ∙ length-append before.constructs (constructs_from (within_of symbols) (length before.instructions) here)
-      ∙ ap (λ n. length before.constructs + n) (constructs-count (within_of symbols) (length before.instructions) here) in
+      ∙ ap (λ n. length before.constructs + n) (as-many-constructs (within_of symbols) (length before.instructions) here) in
       adds-both before between after here (loops_behind symbols (length before.constructs + length here) rest) one
       (subst (λ n. AddsLoops symbols between after (loops_behind symbols n rest)) count two)
 

@@ -1,13 +1,15 @@
 -- Small trees, and the instructions that they have.
 use Rattle.std.proofs.Common.{◌≡◌, [], ◌∷◌, false, true, Some, None, refl}
 use Rattle.std.specs.Int.{int_wrap}
-use Rattle.std.specs.Prelude.{codes, pos}
+use Rattle.std.specs.Prelude.{codes, pos, negsuc}
 use Rattle.dc_int.specs.declared.kind.Kind.{Kind}
 use Rattle.dc_int.specs.declared.operation.Op.{Op}
 use Rattle.dc_int.specs.Sorts.{whole, logical}
+use Rattle.dc_code.specs.declared.frame.Item.{Item}
 use Rattle.dc_code.specs.declared.instr.Folding.{Folding}
 use Rattle.dc_code.specs.declared.instr.Relation.{Relation}
 use Rattle.dc_code.specs.declared.instr.What.{What}
+use Rattle.dc_code.specs.Combinations.{Span}
 use Rattle.dc_tree.specs.declared.token.Mark.{Mark}
 use Rattle.dc_tree.specs.declared.token.Suffix.{Suffix}
 use Rattle.dc_tree.specs.Blocks.{Items, plain, none, and_then}
@@ -17,6 +19,7 @@ use Rattle.dc_tree.specs.Syntax.{Tree, number, chars, name, refer, paren, unary,
 use Rattle.dc_lower.specs.Assigning.{assignment_code, filling_code}
 use Rattle.dc_lower.specs.Blocks.{groups_of_block, part_code}
 use Rattle.dc_lower.specs.Expressions.{value_code}
+use Rattle.dc_lower.specs.Heading.{items_of, stack_of}
 use Rattle.dc_lower.specs.Printing.{printing_code}
 
 -- an array `a` of four elements, a scalar `t` of kind 8, an index `i`, a constant `n`, and truths `q`
@@ -112,3 +115,20 @@ added : groups_of_block small lists
     ≡ record { kind = Kind.K4; logical = false; bounds = (pos 1, pos 4) ∷ [] } ∷ record { kind = Kind.K4; logical = true; bounds = (pos 1, pos 0) ∷ [] } ∷ []
 unfolding lists
 added = refl
+
+-- the limits and the steps of (i = 2:9, j = 8:1:-3): the first limit is pushed first, and the last step is on top
+first_span : Span
+first_span = record { first = pos 2; last = pos 9; step = pos 1 }
+
+second_span : Span
+second_span = record { first = pos 8; last = pos 1; step = negsuc 2 }
+
+pushed_items : items_of (first_span ∷ second_span ∷ [])
+    ≡ Item.Value (pos 2) ∷ Item.Value (pos 9) ∷ Item.Value (pos 1) ∷ Item.Value (pos 8) ∷ Item.Value (pos 1) ∷ Item.Value (negsuc 2) ∷ []
+unfolding first_span second_span
+pushed_items = refl
+
+stacked : stack_of (first_span ∷ second_span ∷ [])
+    ≡ Item.Value (negsuc 2) ∷ Item.Value (pos 1) ∷ Item.Value (pos 8) ∷ Item.Value (pos 1) ∷ Item.Value (pos 9) ∷ Item.Value (pos 2) ∷ []
+unfolding first_span second_span
+stacked = refl

@@ -32,7 +32,7 @@ use Rattle.dc_lower.proofs.KnownNames.{KnownIn, fits-known, holds-known, all-in-
 use Rattle.dc_lower.proofs.LoopShapes.{no-texts}
 use Rattle.dc_lower.proofs.SimpleLoops.{AreSimple, none-entered, all-simple, all-counted}
 use Rattle.dc_lower.proofs.LaidCodes.{header_segment, body_segment, segments_from, main_segment, all_segments, all-whats, all-starts, all-parts}
-use Rattle.dc_lower.proofs.FittingLists.{bounds-fit, bounds-small, groups-small, body-changes, no-local-groups, as-many-plans, as-many-constructs, constructs-fit}
+use Rattle.dc_lower.proofs.FittingLists.{bounds-fit, bounds-small, groups-small, body-changes, no-local-groups, as-many-plans, as-many-loops, constructs-fit}
 
 -- ---- a loop
 
@@ -204,7 +204,7 @@ code-is-well-formed symbols source able held =
     few : 0 + loops_in_all source.body ≤ length code.constructs
     few =
         let entered : loops_in_all source.body ≡ length loops = all-counted within (main_scope symbols) 0 source.body built.items in
-        let made : length code.constructs ≡ length loops = as-many-constructs within at loops in
+        let made : length code.constructs ≡ length loops = as-many-loops symbols source able 0 in
         omega (arith, entered, made)
 
     main_straight : IsStraight code (main_segment symbols source)

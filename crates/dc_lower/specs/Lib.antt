@@ -3,7 +3,9 @@ pub mod Agreeing
 pub mod Assigning
 pub mod Blocks
 pub mod Carrying
+pub mod CodeOf
 pub mod Expressions
+pub mod Heading
 pub mod Held
 pub mod Lowerable
 pub mod Lowered

@@ -52,7 +52,9 @@ ghost use Rattle.dc_lower.specs.Blocks.{
   groups_of_block,
 };
 ghost use Rattle.dc_lower.specs.Carrying.{LeaveValue, CarryOut, CarryOutKeeping, RunPart};
+ghost use Rattle.dc_lower.specs.CodeOf.{IsCodeOf};
 ghost use Rattle.dc_lower.specs.Expressions.{value_code, is_usable};
+ghost use Rattle.dc_lower.specs.Heading.{HasHeader};
 ghost use Rattle.dc_lower.specs.Lowerable.{IsLowerable, are_held_symbols};
 ghost use Rattle.dc_lower.specs.Lowered.{lowered};
 ghost use Rattle.dc_lower.specs.Printing.{printing_code, texts_of_items, TextsStand, give_items};
@@ -128,6 +130,16 @@ pub fn the_loops_of_a_code_are_the_loops_of_the_program()
         (program_forms symbols source turns number []) }
 {}
 
+/// The code of the header of each loop does what the header means and leaves as many turns: from a
+/// new frame it leaves that frame with the limits and the step on its stack, and no other change.
+pub fn the_header_of_a_loop_leaves_its_limits()
+    ensures { (symbols : List Symbol) (source : Source) → IsLowerable symbols source
+        → (turns number : ℕ) (loop : Concurrent)
+        → slice_get (program_loops symbols source turns) number ≡ Some loop
+        → HasHeader (lowered symbols source) number
+        (program_forms symbols source turns number []) }
+{}
+
 /// Where a program has no loop of a number, neither has its code: what stands there has no
 /// iteration.
 pub fn a_code_has_no_other_loops_than_its_program()
@@ -151,6 +163,13 @@ pub fn a_program_that_breaks_no_rule_is_lowerable()
 pub fn the_code_of_a_program_is_well_formed()
     ensures { (symbols : List Symbol) (source : Source) → IsLowerable symbols source
         → IsTrue (are_held_symbols symbols) → IsWellFormed (lowered symbols source) }
+{}
+
+/// The code that is made of a program is a code of it, where the bounds of its variables are numbers
+/// that an instruction holds: well formed, with what the main program does, and with its loops.
+pub fn the_code_that_is_made_of_a_program_is_a_code_of_it()
+    ensures { (symbols : List Symbol) (source : Source) → IsLowerable symbols source
+        → IsTrue (are_held_symbols symbols) → IsCodeOf symbols source (lowered symbols source) }
 {}
 
 /// The code of a program takes nothing in, doesn't stop, and enters the loops of the program alone.

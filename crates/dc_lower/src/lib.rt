@@ -23,6 +23,7 @@ pub use law::{
     instructions_of_a_list_carry_it_out, instructions_of_an_assignment_carry_it_out,
     instructions_of_an_expression_leave_its_value, instructions_of_output_carry_it_out,
     the_code_of_a_program_does_what_its_main_program_does, the_code_of_a_program_is_well_formed,
+    the_code_that_is_made_of_a_program_is_a_code_of_it, the_header_of_a_loop_leaves_its_limits,
     the_loops_of_a_code_are_the_loops_of_the_program,
 };
 pub use lowering::lower;

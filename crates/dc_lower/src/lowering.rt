@@ -2,6 +2,7 @@
 
 ghost use Rattle.std.specs.Prelude.{◌≡◌, IfOk};
 ghost use Rattle.dc_tree.specs.Blocks.{source_of};
+ghost use Rattle.dc_lower.specs.CodeOf.{IsCodeOf};
 ghost use Rattle.dc_lower.specs.Lowerable.{IsLowerable};
 ghost use Rattle.dc_lower.specs.Lowered.{lowered};
 
@@ -16,7 +17,8 @@ use std::alloc::Global;
 /// there are places for wants memory too.
 pub fn lower(alloc: Global, program: &Program, symbols: &Symbols) -> Result<Code, NoMemory>
     requires { IsLowerable symbols.now (source_of program.now) }
-    ensures { IfOk result (λ code. code ≡ lowered symbols.now (source_of program.now)) }
+    ensures made { IfOk result (λ code. code ≡ lowered symbols.now (source_of program.now)) }
+    ensures means { IfOk result (IsCodeOf symbols.now (source_of program.now)) }
 {
     let Lists {
         instructions,

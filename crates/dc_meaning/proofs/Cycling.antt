@@ -17,7 +17,7 @@ use Rattle.dc_meaning.specs.declared.stop.Stop.{Stop}
 use Rattle.dc_meaning.specs.Gathering.{gathered}
 use Rattle.dc_meaning.specs.Values.{value, values, first_value, all_values}
 use Rattle.dc_meaning.specs.Walking.{Stays}
-use Rattle.dc_meaning.proofs.Gathering.{next-is, gathered-on, gathered-bad, gathered-none, gathered-all, as-they-are}
+use Rattle.dc_meaning.proofs.Gathering.{next-is, gathered-on, gathered-bad, gathered-none, gathered-all}
 use Rattle.dc_meaning.proofs.Valuing.{value-as, arg_value, values-list}
 use Rattle.dc_meaning.proofs.Walking.{stays-as}
 
@@ -78,19 +78,19 @@ module _ (args : List Arg) (at : ℕ) (item : Arg) (below : at < length args) (i
       → Stays (λ zs. zs) own view (λ call. gathered (value scope call line) shown (map arg_value (drop at args))) after r
   arguments-next scope line shown more z grows first rest =
       stays-as (λ call. ap (λ given. gathered (value scope call line) shown (map arg_value given)) (next-is args at item below is))
-      (gathered-on as-they-are (λ call. value scope call line) shown more (arg_value item) (map arg_value (drop (at + 1) args)) z grows (stays-as (λ call. ap (value scope call line) (arg-is item)) first) rest)
+      (gathered-on (λ call. value scope call line) shown more (arg_value item) (map arg_value (drop (at + 1) args)) z grows (stays-as (λ call. ap (value scope call line) (arg-is item)) first) rest)
 
   pub arguments-bad : {own : Slots} {view after : View} {e : Stop} (scope : Scope) (line : ℕ) (shown : List ℤ)
       → Stays (λ (z : ℤ). z) own view (λ call. value scope call line (tree (out-Arg item).value)) after (Err e)
       → Stays (λ (zs : List ℤ). zs) own view (λ call. gathered (value scope call line) shown (map arg_value (drop at args))) after (Err e)
   arguments-bad scope line shown first =
       stays-as (λ call. ap (λ given. gathered (value scope call line) shown (map arg_value given)) (next-is args at item below is))
-      (gathered-bad as-they-are (λ call. value scope call line) shown (arg_value item) (map arg_value (drop (at + 1) args)) (stays-as (λ call. ap (value scope call line) (arg-is item)) first))
+      (gathered-bad (λ call. value scope call line) shown (arg_value item) (map arg_value (drop (at + 1) args)) (stays-as (λ call. ap (value scope call line) (arg-is item)) first))
 
 pub arguments-none : {own : Slots} {view : View} (args : List Arg) (at : ℕ) → length args ≤ at → (scope : Scope) (line : ℕ) (shown : List ℤ)
     → Stays (λ (zs : List ℤ). zs) own view (λ call. gathered (value scope call line) shown (map arg_value (drop at args))) view (Ok shown)
 arguments-none args at past scope line shown =
-    stays-as (λ call. ap (λ given. gathered (value scope call line) shown (map arg_value given)) (drop_all at args past)) (gathered-none as-they-are (λ call. value scope call line) shown)
+    stays-as (λ call. ap (λ given. gathered (value scope call line) shown (map arg_value given)) (drop_all at args past)) (gathered-none (λ call. value scope call line) shown)
 
 -- the loop begins with nothing gathered
 pub arguments-all : {own : Slots} {view after : View} {r : Result (List ℤ) Stop} (args : List Arg) (scope : Scope) (line : ℕ) (shown : List ℤ) → shown ≡ []
@@ -120,19 +120,19 @@ module _ (exprs : List Expr) (at : ℕ) (item : Expr) (below : at < length exprs
       → Stays (λ zs. zs) own view (λ call. gathered (value scope call line) shown (map tree (drop at exprs))) after r
   exprs-next scope line shown more z grows first rest =
       stays-as (λ call. ap (gathered (value scope call line) shown) trees-next)
-      (gathered-on as-they-are (λ call. value scope call line) shown more (tree item) (map tree (drop (at + 1) exprs)) z grows first rest)
+      (gathered-on (λ call. value scope call line) shown more (tree item) (map tree (drop (at + 1) exprs)) z grows first rest)
 
   pub exprs-bad : {own : Slots} {view after : View} {e : Stop} (scope : Scope) (line : ℕ) (shown : List ℤ)
       → Stays (λ (z : ℤ). z) own view (λ call. value scope call line (tree item)) after (Err e)
       → Stays (λ (zs : List ℤ). zs) own view (λ call. gathered (value scope call line) shown (map tree (drop at exprs))) after (Err e)
   exprs-bad scope line shown first =
       stays-as (λ call. ap (gathered (value scope call line) shown) trees-next)
-      (gathered-bad as-they-are (λ call. value scope call line) shown (tree item) (map tree (drop (at + 1) exprs)) first)
+      (gathered-bad (λ call. value scope call line) shown (tree item) (map tree (drop (at + 1) exprs)) first)
 
 pub exprs-none : {own : Slots} {view : View} (exprs : List Expr) (at : ℕ) → length exprs ≤ at → (scope : Scope) (line : ℕ) (shown : List ℤ)
     → Stays (λ (zs : List ℤ). zs) own view (λ call. gathered (value scope call line) shown (map tree (drop at exprs))) view (Ok shown)
 exprs-none exprs at past scope line shown =
-    stays-as (λ call. ap (λ given. gathered (value scope call line) shown (map tree given)) (drop_all at exprs past)) (gathered-none as-they-are (λ call. value scope call line) shown)
+    stays-as (λ call. ap (λ given. gathered (value scope call line) shown (map tree given)) (drop_all at exprs past)) (gathered-none (λ call. value scope call line) shown)
 
 pub exprs-all : {own : Slots} {view after : View} {r : Result (List ℤ) Stop} (trees : List Tree) (scope : Scope) (line : ℕ) (shown : List ℤ) → shown ≡ []
     → Stays (λ (zs : List ℤ). zs) own view (λ call. gathered (value scope call line) shown trees) after r

@@ -1,5 +1,5 @@
 -- Results that are gathered item by item.
-use Rattle.std.proofs.Common.{◌≡◌, ℕ, suc, ◌+◌, ◌-◌, ◌<◌, List, [], ◌∷◌, ◌++◌, map, length, drop, get_or, refl, sym, ap, ◌∙◌, arith, append_assoc, append-nil, drop-cons}
+use Rattle.std.proofs.Common.{◌≡◌, ℕ, suc, ◌+◌, ◌-◌, ◌<◌, List, [], ◌∷◌, ◌++◌, length, drop, get_or, refl, sym, ap, ◌∙◌, arith, append_assoc, append-nil, drop-cons}
 use Rattle.std.specs.Prelude.{Result, Ok, Err}
 use Rattle.dc_code.specs.declared.frame.Place.{Place}
 use Rattle.dc_code.specs.Troubles.{Slots}
@@ -31,38 +31,23 @@ gathered-all act [] = refl
 gathered-all act (item ∷ items) = sym (acts-then (act item) (λ b. for_each act items >>= (λ bs. just (b ∷ bs))) (λ bs. just bs)
     ∙ (λ i. act item >>= (λ b. acts-then (for_each act items) (λ bs. just (b ∷ bs)) (λ bs. just bs) i)))
 
--- The results as they are told, which grow at the end.
-pub record Telling {B C : Type 0} (tell : C → B) (tells : List C → List B) : Type 0 where
-  pub none : tells [] ≡ []
-  pub more : (shown : List C) (c : C) → tells (shown ++ c ∷ []) ≡ tells shown ++ tell c ∷ []
-
-pub as-they-are : {B : Type 0} → Telling {B = B} {C = B} (λ b. b) (λ bs. bs)
-as-they-are = record { none = refl; more = λ shown c. refl }
-
-pub one-by-one : {B C : Type 0} (tell : C → B) → Telling tell (map tell)
-one-by-one tell = record { none = refl; more = grows }
-  where
-    grows : (shown : List _) (c : _) → map tell (shown ++ c ∷ []) ≡ map tell shown ++ tell c ∷ []
-    grows [] c = refl
-    grows (first ∷ shown) c = ap (λ bs. tell first ∷ bs) (grows shown c)
-
-module _ {A B C : Type 0} {tell : C → B} {tells : List C → List B} (telling : Telling tell tells) {own : Slots} (act : Callee → A → Act B) where
+module _ {A B : Type 0} {own : Slots} (act : Callee → A → Act B) where
   -- one more result
-  pub gathered-on : {view between after : View} {r : Result (List C) Stop} (shown more : List C) (item : A) (items : List A) (c : C) → more ≡ shown ++ c ∷ []
-      → Stays tell own view (λ call. act call item) between (Ok c) → Stays tells own between (λ call. gathered (act call) (tells more) items) after r
-      → Stays tells own view (λ call. gathered (act call) (tells shown) (item ∷ items)) after r
-  gathered-on shown more item items c is one rest =
-      stays-as (λ call. gathered-step (act call) (tells shown) item items)
-      (stays-then (λ call b. gathered (act call) (tells shown ++ b ∷ []) items) one
-      (stays-as (λ call. ap (λ bs. gathered (act call) bs items) (sym (ap tells is ∙ telling.more shown c))) rest))
+  pub gathered-on : {view between after : View} {r : Result (List B) Stop} (shown more : List B) (item : A) (items : List A) (b : B) → more ≡ shown ++ b ∷ []
+      → Stays (λ b. b) own view (λ call. act call item) between (Ok b) → Stays (λ bs. bs) own between (λ call. gathered (act call) more items) after r
+      → Stays (λ bs. bs) own view (λ call. gathered (act call) shown (item ∷ items)) after r
+  gathered-on shown more item items b is one rest =
+      stays-as (λ call. gathered-step (act call) shown item items)
+      (stays-then (λ call b. gathered (act call) (shown ++ b ∷ []) items) one
+      (stays-as (λ call. ap (λ bs. gathered (act call) bs items) (sym is)) rest))
 
-  pub gathered-bad : {view after : View} {e : Stop} (shown : List C) (item : A) (items : List A) → Stays tell own view (λ call. act call item) after (Err e)
-      → Stays tells own view (λ call. gathered (act call) (tells shown) (item ∷ items)) after (Err e)
+  pub gathered-bad : {view after : View} {e : Stop} (shown : List B) (item : A) (items : List A) → Stays (λ (b : B). b) own view (λ call. act call item) after (Err e)
+      → Stays (λ bs. bs) own view (λ call. gathered (act call) shown (item ∷ items)) after (Err e)
   gathered-bad shown item items one =
-      stays-as (λ call. gathered-step (act call) (tells shown) item items) (stays-bad {A = List C} {tell = tells} (λ call b. gathered (act call) (tells shown ++ b ∷ []) items) one)
+      stays-as (λ call. gathered-step (act call) shown item items) (stays-bad {A = List B} {tell = λ bs. bs} (λ call b. gathered (act call) (shown ++ b ∷ []) items) one)
 
-  pub gathered-none : {view : View} (shown : List C) → Stays tells own view (λ call. gathered (act call) (tells shown) []) view (Ok shown)
-  gathered-none shown = stays-just shown (λ call. ap just (append-nil (tells shown)))
+  pub gathered-none : {view : View} (shown : List B) → Stays (λ bs. bs) own view (λ call. gathered (act call) shown []) view (Ok shown)
+  gathered-none shown = stays-just shown (λ call. ap just (append-nil shown))
 
 -- ---- of the elements of a variable
 

@@ -7,7 +7,6 @@ pub mod Gathering
 pub mod Heading
 pub mod Inquiring
 pub mod Judging
-pub mod Limiting
 pub mod Looping
 pub mod Own
 pub mod OwnBlocks
@@ -19,7 +18,6 @@ pub mod Positions
 pub mod Racing
 pub mod Referring
 pub mod Saying
-pub mod Showing
 pub mod Sources
 pub mod Storing
 pub mod Tasks

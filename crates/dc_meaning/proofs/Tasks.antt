@@ -1,5 +1,5 @@
 -- The index of a loop that can be run, and the task of judging the loop.
-use Rattle.std.proofs.Common.{◌≡◌, ◌≤◌, ◌&&◌, ℕ, true, List, [], ◌∷◌, length, map, None, sym, ap, subst, ◌∙◌, arith}
+use Rattle.std.proofs.Common.{◌≡◌, ◌≤◌, ◌&&◌, ℕ, true, List, [], ◌∷◌, length, map, sym, ap, subst, ◌∙◌, arith}
 use Rattle.std.specs.List.{list_all}
 use Rattle.std.specs.Prelude.{Result}
 use Rattle.dc_code.specs.Loops.{Loop}
@@ -11,7 +11,7 @@ use Rattle.dc_sorts.specs.declared.standing.IndexName.{IndexName}
 use Rattle.dc_sorts.specs.Standing.{standing_of, scope_at, index_entity, unit_scope}
 use Rattle.dc_tree.specs.declared.symbols.Symbol.{Symbol}
 use Rattle.dc_tree.specs.Blocks.{Items, items}
-use Rattle.dc_tree.specs.BuiltPrograms.{is_held, is_built_block, all_spare, are_built_symbols, is_built_loop}
+use Rattle.dc_tree.specs.BuiltPrograms.{is_built_block, all_spare, are_built_symbols, is_built_loop}
 use Rattle.dc_tree.specs.Entities.{Scope, main_scope, with_names}
 use Rattle.dc_tree.specs.Statements.{Ranging, Statement}
 use Rattle.dc_meaning.specs.declared.stop.Stop.{Stop}
@@ -36,15 +36,6 @@ module _ (symbols : List Symbol) (head : Statement) (block : Items) (built : is_
 
   pub index-named : index_name head ≡ ranging.name
   index-named = ap index_name here.is ∙ ap (λ (r : Ranging). r.name) same
-
-  pub index-step : ranging.step ≡ None
-  index-step = ap (λ (r : Ranging). r.step) (sym same) ∙ here.step
-
-  pub first-held : is_held ranging.first ≡ true
-  first-held = ap (λ (r : Ranging). is_held r.first) (sym same) ∙ here.first
-
-  pub last-held : is_held ranging.last ≡ true
-  last-held = ap (λ (r : Ranging). is_held r.last) (sym same) ∙ here.last
 
   pub block-built : is_built_block block ≡ true
   block-built = here.block

@@ -32,7 +32,7 @@ use Rattle.dc_meaning.proofs.Walking.{stays-just, stays-then, stays-bad, stays-a
 
 -- ---- names
 
-pub refer-found : (found : Found) (call : Callee) (line : ℕ) (subscripts : List ℤ) → refer_value call line (entity_of found) subscripts ≡ value_at_entity line (entity_of found) subscripts
+refer-found : (found : Found) (call : Callee) (line : ℕ) (subscripts : List ℤ) → refer_value call line (entity_of found) subscripts ≡ value_at_entity line (entity_of found) subscripts
 refer-found (Found.Index k) call line subscripts = refl
 refer-found (Found.Variable variable form bounds) call line subscripts = refl
 refer-found (Found.Constant form z) call line subscripts = refl

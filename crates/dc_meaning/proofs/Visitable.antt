@@ -19,20 +19,18 @@ use Rattle.dc_tree.specs.declared.symbols.Symbol.{Symbol}
 use Rattle.dc_tree.specs.Blocks.{Line, Items, Source}
 use Rattle.dc_tree.specs.BuiltPrograms.{are_built_symbols, is_built}
 use Rattle.dc_tree.specs.Entities.{Entity, slots, Scope, entity, entity_in, result_in, procedure_entity, symbols_in, outer_names, main_scope}
-use Rattle.dc_tree.specs.Statements.{Name, Ranging}
-use Rattle.dc_meaning.specs.declared.header.Limits.{Limits}
+use Rattle.dc_tree.specs.Statements.{Name}
 use Rattle.dc_meaning.specs.declared.stop.Stop.{Stop}
 use Rattle.dc_meaning.specs.Alone.{nth_loop, index_name, block_alone, Ends}
 use Rattle.dc_meaning.specs.Concurrent.{Outside, Concurrent, Surroundings, is_reduction}
-use Rattle.dc_meaning.specs.Execution.{span_of, exec_all}
+use Rattle.dc_meaning.specs.Execution.{exec_all}
 use Rattle.dc_meaning.specs.Headers.{localities_of, form_of}
 use Rattle.dc_meaning.specs.Judging.{IsDoneBy, fresh, IsRunBy, IsPlainly}
 use Rattle.dc_meaning.specs.Programs.{surroundings, program_forms}
-use Rattle.dc_meaning.specs.Visiting.{span_with, OpensBy, first_index, IsVisitable, loop_parts}
-use Rattle.dc_meaning.specs.Walking.{Stays}
+use Rattle.dc_meaning.specs.Visiting.{HeadsSo, IsVisitable, loop_parts}
 use Rattle.dc_meaning.specs.WalkScope.{kind_of_index, index_scope}
 use Rattle.dc_meaning.proofs.Doing.{May, Any, Only, only-quiet}
-use Rattle.dc_meaning.proofs.Heading.{opens-by}
+use Rattle.dc_meaning.proofs.Heading.{heads-so}
 use Rattle.dc_meaning.proofs.Looping.{concurrent-with, LoopAt, block-form}
 use Rattle.dc_meaning.proofs.Own.{OwnEntity, OwnTarget, target-read, frame-only}
 use Rattle.dc_meaning.proofs.OwnBlocks.{block-own}
@@ -169,14 +167,11 @@ module _ (symbols : List Symbol) (source : Source) (turns number : ℕ) (head : 
   reads-own : (text : Name) → OwnEntity Any (entity (main_scope symbols) text)
   reads-own text = target-read anything (entity (main_scope symbols) text) (anything-own symbols names-here text)
 
-  opens-at : (ranging : Ranging) (store : Store) (left : ℕ) (after : View) (result : Result Limits Stop) → first_index head.says ranging
-      → Stays span_with [] (fresh store) (λ call. span_of (main_scope symbols) call head.line (whole (kind_of_index symbols ranging.name)) ranging) after result
-      → OpensBy head.line left store after (over store (header_of (loop_parts symbols source turns number).form left)).reached result
-  opens-at ranging store left after result first stays =
-      let same : at.built.ranging ≡ ranging = subst (λ s. first_index s ranging) at.built.is first in
-      subst (λ (f : Form). OpensBy head.line left store after (over store (header_of f left)).reached result) (sym form-here)
-      (opens-by within symbols at.counted head block at.built reads-own store left after result
-      (subst (λ (r : Ranging). Stays span_with [] (fresh store) (λ call. span_of (main_scope symbols) call head.line (whole (kind_of_index symbols r.name)) r) after result) (sym same) stays))
+  heads-at : (store : Store) (left : ℕ)
+      → HeadsSo head.line store (over store ((loop_parts symbols source turns number).form.header left)) (over store (header_of (loop_parts symbols source turns number).form left)).reached
+  heads-at store left =
+      subst (λ (f : Form). HeadsSo head.line store (over store (f.header left)) (over store (header_of f left)).reached) (sym form-here)
+      (heads-so within symbols at.counted head block at.built reads-own store left)
 
 -- A loop of the program at its number.
 pub visitable : (symbols : List Symbol) (source : Source) (turns number : ℕ) (head : Line) (block : Items) → is_built symbols source ≡ true → nth_loop number source.body ≡ Some (head, block)
@@ -185,6 +180,6 @@ visitable symbols source turns number head block form is = record {
   names = names-here symbols source turns number head block form (sym is);
   built = loop-built symbols source form number head block (sym is);
   run = runs-by symbols source turns number head block form (sym is);
-  opens = opens-at symbols source turns number head block form (sym is);
+  heads = heads-at symbols source turns number head block form (sym is);
   plainly = plainly-by symbols source turns number head block form (sym is);
 }

@@ -130,22 +130,6 @@ pub wanting : {A B : Type 0} {tell : A → B} {own : Slots} {before after : View
     → Stays tell own before act after r
 wanting r h = handed r Stop.NoMemory h stays-none
 
--- the same, told otherwise
-pub told-as : {A C B : Type 0} {tell : A → B} {own : Slots} {before after : View} {act : Callee → Act B} {a : A} (tell_too : C → B) (c : C) → tell a ≡ tell_too c
-    → Stays tell own before act after (Ok a) → Stays tell_too own before act after (Ok c)
-told-as {own = own} {after = after} tell_too c same walks =
-    record { each = λ turns. record { answers = λ call. (walks.each turns).answers call ∙ ap (λ b. (after, done (b, state_in own turns))) same } }
-
-told-bad-at : {A C B : Type 0} (tell : A → B) (tell_too : C → B) (before : View) (c : Computing (B × State)) (left : State) (after : View) (e : Stop)
-    → Answers tell before c left after (Err e) → Answers tell_too before c left after (Err e)
-told-bad-at tell tell_too before c left after (Stop.Failed why line) walks = walks
-told-bad-at tell tell_too before c left after Stop.NoMemory walks = tt
-
-pub told-bad : {A C B : Type 0} {tell : A → B} {own : Slots} {before after : View} {act : Callee → Act B} {e : Stop} (tell_too : C → B)
-    → Stays tell own before act after (Err e) → Stays tell_too own before act after (Err e)
-told-bad {tell = tell} {own = own} {before = before} {after = after} {act = act} {e = e} tell_too walks =
-    record { each = λ turns. record { answers = λ call. told-bad-at tell tell_too before (act call (state_in own turns)) (state_in own turns) after e ((walks.each turns).answers call) } }
-
 -- ---- first this, then that, and then another
 
 pub acts-then : {A B C : Type 0} (first : Act A) (second : A → Act B) (third : B → Act C) → ((first >>= second) >>= third) ≡ (first >>= (λ a. second a >>= third))

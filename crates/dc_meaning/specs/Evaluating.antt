@@ -1,8 +1,7 @@
 -- The parts of a reference with arguments, as the walker goes about it. This project's own.
 use Rattle.std.specs.Prelude.{ℕ, List, Option, Some, None, ℤ, pos}
-use Rattle.dc_int.specs.declared.kind.Kind.{Kind}
 use Rattle.dc_int.specs.Kinds.{wrapped}
-use Rattle.dc_int.specs.Sorts.{Sort, whole, fitted}
+use Rattle.dc_int.specs.Sorts.{Sort}
 use Rattle.dc_tree.specs.declared.token.Mark.{Mark}
 use Rattle.dc_tree.specs.Entities.{Entity, nothing, Scope}
 use Rattle.dc_tree.specs.Intrinsics.{Intrinsic, operation, chosen, merge, converted, huge, bit_size, kind, total, count, any, all}
@@ -14,7 +13,7 @@ use Rattle.dc_meaning.specs.declared.reference.Asks.{Asks}
 use Rattle.dc_meaning.specs.declared.reference.Evaluates.{Evaluates}
 use Rattle.dc_meaning.specs.Acts.{Act, ◌>>=◌, just}
 use Rattle.dc_meaning.specs.Places.{bounds_of_entity, value_at_entity, whole_values}
-use Rattle.dc_meaning.specs.Values.{Callee, settled, folded, array_named, about_array, dimension_named, value}
+use Rattle.dc_meaning.specs.Values.{settled, folded, array_named, about_array, dimension_named}
 
 -- A declared name hides a function of the language.
 abbrev pub hidden_by : Entity → Option Intrinsic → Option Intrinsic
@@ -80,7 +79,3 @@ unevaluated_at scope line function args = by (asks function)
     by Asks.Kind = just (asked_about (about_kind function (first_sort (sorts_of scope args))))
     by Asks.Elements = folded_at scope line function (first_sort (sorts_of scope args)) args
     by Asks.Bounds = just (asked_of_array scope function args)
-
--- a limit of an index
-abbrev pub limit_at : Scope → Callee → ℕ → Kind → Tree → Act ℤ
-limit_at scope call line of_kind tree = value scope call line tree >>= (λ z. just (fitted (whole of_kind) z))

@@ -12,7 +12,6 @@ pub mod Looping
 pub mod Numbering
 pub mod OutputPieces
 pub mod Pairing
-pub mod Pieces
 pub mod Places
 pub mod PlainVerdicts
 pub mod Programs

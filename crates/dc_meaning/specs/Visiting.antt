@@ -1,32 +1,27 @@
 -- A loop of the main program that the plain judge visits: what is asked of the loop, and what is left of the
 -- store. This project's own.
-use Rattle.std.specs.Prelude.{◌≡◌, ℕ, Bool, true, false, List, [], ◌∷◌, map, if◌then◌else◌, Result, Ok, Err, pos, IsTrue}
+use Rattle.std.specs.Prelude.{◌≡◌, ℕ, Bool, true, false, List, [], ◌∷◌, map, if◌then◌else◌, pos, IsTrue}
 use Rattle.dc_int.specs.declared.fault.FaultKind.{FaultKind}
 use Rattle.dc_int.specs.declared.fault.Why.{Why}
-use Rattle.dc_int.specs.Sorts.{whole}
 use Rattle.dc_int.specs.Store.{Store}
 use Rattle.dc_code.specs.declared.verdict.Verdict as answers
 use Rattle.dc_code.specs.Combinations.{Span, values_of}
-use Rattle.dc_code.specs.Computation.{Reached, over, done, bad}
+use Rattle.dc_code.specs.Computation.{Reached, Run, over, done, bad}
 use Rattle.dc_code.specs.Inner.{judging, nested_loop, greatest_depth}
 use Rattle.dc_code.specs.Loops.{Loop, HeaderResult, header_of, are_too_many}
-use Rattle.dc_code.specs.Troubles.{Trouble, ended}
+use Rattle.dc_code.specs.Troubles.{Event, Failure, Trouble, ended, in_statement}
 use Rattle.dc_code.specs.Verdicts.{Verdict, go_on, seen, judged_by}
 use Rattle.dc_code.specs.Visits.{Visited, visited}
-use Rattle.dc_plain.specs.Views.{View}
 use Rattle.dc_tree.specs.declared.symbols.Symbol.{Symbol}
 use Rattle.dc_tree.specs.Blocks.{Items, Source}
 use Rattle.dc_tree.specs.BuiltPrograms.{are_built_symbols, is_built_loop}
 use Rattle.dc_tree.specs.Entities.{main_scope}
 use Rattle.dc_tree.specs.Statements.{Ranging, Statement, concurrent}
 use Rattle.dc_meaning.specs.declared.header.Limits.{Limits}
-use Rattle.dc_meaning.specs.declared.stop.Stop.{Stop}
 use Rattle.dc_meaning.specs.Alone.{index_name}
-use Rattle.dc_meaning.specs.Execution.{span_of}
-use Rattle.dc_meaning.specs.Judging.{IsRunBy, IsPlainly, combination, fresh}
+use Rattle.dc_meaning.specs.Judging.{IsRunBy, IsPlainly, combination}
 use Rattle.dc_meaning.specs.Programs.{program_forms}
-use Rattle.dc_meaning.specs.Walking.{Stays}
-use Rattle.dc_meaning.specs.WalkScope.{index_scope, kind_of_index}
+use Rattle.dc_meaning.specs.WalkScope.{index_scope}
 
 -- ---- the header of a loop with one index
 
@@ -39,11 +34,18 @@ opened line span turns =
     if are_too_many (span ∷ []) then bad (ended (Why.Fault FaultKind.TooManyIterations) line [])
     else done (record { iterations = map combination (values_of span); turns = turns })
 
--- What the walker answers for the limits tells what the header comes to; and they change no element.
-abbrev pub OpensBy : ℕ → ℕ → Store → View → Reached ⊥ Trouble HeaderResult → Result Limits Stop → Type 0
-OpensBy line turns store after reached (Ok limits) = (reached ≡ opened line (span_with limits) turns) × (after.store ≡ store)
-OpensBy line turns store after reached (Err (Stop.Failed why at)) = (reached ≡ bad (ended why at [])) × (after.store ≡ store)
-OpensBy line turns store after reached (Err Stop.NoMemory) = Unit
+-- What the computation of the limits comes to tells what the whole header then comes to: with the values of one
+-- index, which steps by 1, to their iterations or to being too many, and with a failure to its trouble. To nothing
+-- else does it come.
+abbrev pub ComesTo : ℕ → Reached Event Failure (List Span × ℕ) → Reached ⊥ Trouble HeaderResult → Type 0
+ComesTo line (done (span ∷ [], left)) reached = (span.step ≡ pos 1) × (reached ≡ opened line span left)
+ComesTo line (bad failure) reached = reached ≡ bad (in_statement failure)
+ComesTo line other reached = ⊥
+
+-- A run of that computation changes no element.
+pub record HeadsSo (line : ℕ) (store : Store) (run : Run Event Failure (List Span × ℕ)) (reached : Reached ⊥ Trouble HeaderResult) : Type 0 where
+  pub stays : run.store ≡ store
+  pub comes : ComesTo line run.reached reached
 
 -- The first index of a header.
 abbrev pub first_index : Statement → Ranging → Type 0
@@ -62,10 +64,7 @@ pub record IsVisitable (parts : Loop) (symbols : List Symbol) (line : ℕ) (head
   pub names : IsTrue (are_built_symbols symbols)
   pub built : IsTrue (is_built_loop (main_scope symbols) head block)
   pub run : IsRunBy parts (index_scope symbols (index_name head)) block
-  pub opens
-      : (ranging : Ranging) (store : Store) (turns : ℕ) (after : View) (result : Result Limits Stop) → first_index head ranging
-      → Stays span_with [] (fresh store) (λ call. span_of (main_scope symbols) call line (whole (kind_of_index symbols ranging.name)) ranging) after result
-      → OpensBy line turns store after (over store (header_of parts.form turns)).reached result
+  pub heads : (store : Store) (turns : ℕ) → HeadsSo line store (over store (parts.form.header turns)) (over store (header_of parts.form turns)).reached
   pub plainly : IsPlainly parts
 
 -- The loop of a number in a program, as the main program reaches it.

@@ -8,7 +8,6 @@ ghost use Rattle.dc_meaning.specs.Visiting as visiting;
 ghost use Rattle.dc_meaning.specs.WalkScope.{kind_of_index};
 
 use crate::arrays::form_of;
-use crate::assignment::main_walk;
 use dc_entities::{Numbering, find};
 use dc_int::Kind;
 use dc_sorts::{IndexName, Standing, kind_of};
@@ -36,8 +35,8 @@ pub fn index_kind(symbols: &Symbols, numbering: &Numbering, name: &[u8]) -> Kind
     requires numbers { numbering.now ≡ numbers_of symbols.now }
     ensures { result ≡ kind_of_index symbols.now name.now }
 {
-    let walk = main_walk(symbols, numbering);
-    kind_of(form_of(find(&walk.standing, walk.numbering, name)))
+    let standing = block_standing(symbols, &[]);
+    kind_of(form_of(find(&standing, numbering, name)))
 }
 
 /// The index of a loop as a list of names.

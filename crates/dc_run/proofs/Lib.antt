@@ -1,3 +1,5 @@
+pub mod Advancing
+pub mod Attending
 pub mod Beginnings
 mod CallRows
 pub mod Elements
@@ -9,20 +11,22 @@ mod FlowRows
 pub mod IndexLists
 mod InnerRows
 mod InputRows
-pub mod Lines
+pub mod Left
+pub mod LoopPlaces
 mod LoopRows
-pub mod LoopSteps
+pub mod Lowering
 pub mod NamedBounds
+pub mod Openings
 mod OrderRows
 pub mod Owned
+pub mod Pausing
 pub mod Played
 mod RaceRows
-pub mod Remaining
 mod ReportLineExamples
 pub mod Reporting
 mod Rows
+pub mod Shaped
 mod StatementRows
-pub mod Stepping
 mod StoreRows
 pub mod Stores
 pub mod Subscripts

@@ -1,5 +1,5 @@
 -- The accesses of a loop, and the element that a race of a visit names, are of elements that are there.
-use Rattle.std.proofs.Common.{◌≡◌, ℕ, true, List, [], ◌∷◌, refl, sym, ap, subst, ◌∙◌}
+use Rattle.std.proofs.Common.{◌≡◌, ℕ, true, List, [], ◌∷◌, Option, Some, None, refl, sym, ap, subst, ◌∙◌}
 use Rattle.std.specs.Prelude.{ℤ}
 use Rattle.dc_int.specs.declared.access.Access.{Access}
 use Rattle.dc_int.specs.Entries.{Entry}
@@ -17,13 +17,12 @@ use Rattle.dc_tree.specs.declared.symbols.Symbol.{Symbol}
 use Rattle.dc_tree.specs.Blocks.{Source}
 use Rattle.dc_tree.specs.BuiltPrograms.{are_built_symbols, is_built}
 use Rattle.dc_meaning.specs.Programs.{program_forms}
-use Rattle.dc_meaning.specs.Visiting.{IsVisit}
 use Rattle.dc_meaning.proofs.EveryOrder.{accesses-may}
 use Rattle.dc_meaning.proofs.Passing.{built-source}
 use Rattle.dc_run.proofs.Elements.{to_elements, names-own, element-there}
 use Rattle.dc_run.specs.declared.ending.Ending as endings
 use Rattle.dc_run.specs.Answered.{IsElement, NamesOwn, NamesThere}
-use Rattle.dc_run.specs.Running.{loop_in, AccessesOwn, MeetsOwn, stopped_by}
+use Rattle.dc_run.specs.Running.{loop_in, AccessesOwn, StepsOwn, IsVisitWith, stopped_by, step_behind}
 
 -- An element of a variable is there.
 pub names-there : (symbols : List Symbol) → are_built_symbols symbols ≡ true → (ending : endings.Ending) → NamesOwn symbols ending → NamesThere symbols ending
@@ -69,10 +68,23 @@ judged-own symbols loop store (done given) found first second own told =
     race-own symbols loop store given.iterations found first second own (sym (said-kept loop store given (verdict loop store given.iterations)) ∙ told)
 judged-own symbols loop store (paused event rest) found first second own told = absurd event
 
-pub visit-own : (symbols : List Symbol) (loop : Loop) (before after : Store) (said : answers.Verdict) → AccessesOwn symbols loop → IsVisit loop before after said → MeetsOwn symbols (stopped_by said)
-visit-own symbols loop before after answers.Verdict.GoOn own visit = tt
-visit-own symbols loop before after (answers.Verdict.HeaderFault why line mask) own visit = tt
-visit-own symbols loop before after (answers.Verdict.IterFault why line at) own visit = tt
-visit-own symbols loop before after (answers.Verdict.IterSpent line at) own visit = tt
-visit-own symbols loop before after (answers.Verdict.Race found first second) own visit =
-    judged-own symbols loop before (over before (header_of loop.form 0)).reached found first second own (ap (λ (v : Visited). v.verdict) (visit.is 0))
+-- Where the run ends here by a race, its element is there.
+abbrev MeetsOwn : List Symbol → Option endings.Ending → Type 0
+MeetsOwn symbols None = Unit {0}
+MeetsOwn symbols (Some ending) = NamesOwn symbols ending
+
+own-of : (symbols : List Symbol) (loop : Loop) (turns left : ℕ) (before after : Store) (said : answers.Verdict) → AccessesOwn symbols loop → IsVisitWith loop turns left before after said → MeetsOwn symbols (stopped_by said)
+own-of symbols loop turns left before after answers.Verdict.GoOn own visit = tt
+own-of symbols loop turns left before after (answers.Verdict.HeaderFault why line mask) own visit = tt
+own-of symbols loop turns left before after (answers.Verdict.IterFault why line at) own visit = tt
+own-of symbols loop turns left before after (answers.Verdict.IterSpent line at) own visit = tt
+own-of symbols loop turns left before after (answers.Verdict.Race found first second) own visit =
+    judged-own symbols loop before (over before (header_of loop.form turns)).reached found first second own (ap (λ (v : Visited). v.verdict) visit.is)
+
+own-behind : (symbols : List Symbol) (at left : ℕ) (met : Option endings.Ending) → MeetsOwn symbols met → StepsOwn symbols (step_behind at left met)
+own-behind symbols at left None own = tt
+own-behind symbols at left (Some ending) own = own
+
+pub visit-own : (symbols : List Symbol) (loop : Loop) (at turns left rest : ℕ) (before after : Store) (said : answers.Verdict) → AccessesOwn symbols loop → IsVisitWith loop turns left before after said
+    → StepsOwn symbols (step_behind at rest (stopped_by said))
+visit-own symbols loop at turns left rest before after said own visit = own-behind symbols at rest (stopped_by said) (own-of symbols loop turns left before after said own visit)

@@ -3,7 +3,7 @@ use Rattle.std.proofs.Common.{◌≡◌, ◌≢◌, ℕ, Bool, true, false, List
 use Rattle.std.proofs.lemmas.List.Elements.{All-nil, All-cons}
 use Rattle.std.proofs.lemmas.Option.{none-some}
 use Rattle.std.specs.List.{list_all}
-use Rattle.std.specs.Prelude.{◌⊎◌, ℤ, pos, nat_le, map, if◌then◌else◌}
+use Rattle.std.specs.Prelude.{◌⊎◌, ℤ, pos, nat_le, if◌then◌else◌}
 use Rattle.dc_int.specs.declared.access.ElementId.{ElementId}
 use Rattle.dc_int.specs.declared.fault.FaultKind.{FaultKind}
 use Rattle.dc_int.specs.declared.fault.Why.{Why}
@@ -25,7 +25,7 @@ use Rattle.dc_tree.specs.Symbols.{is_sound}
 use Rattle.dc_meaning.specs.Programs.{first_store, main_computation, program_forms}
 use Rattle.dc_meaning.proofs.EveryOrder.{loop-says}
 use Rattle.dc_run.specs.declared.ending.Ending as endings
-use Rattle.dc_run.specs.declared.running.RunOut.{RunOut}
+use Rattle.dc_run.specs.declared.ending.RunOut.{RunOut}
 use Rattle.dc_run.specs.Answered.{ending_of, IsRunOf}
 use Rattle.dc_run.specs.Headline.{Reports}
 use Rattle.dc_run.specs.Playing.{Visit, bounds_in, Outcome, Standing, Looping, greatest_output, ends_with, behind_output, behind_visit, fails_with, with_input, with_store, takes_one, takes_each, ends_reading, behind_loop, answered, played, looping_by, run}

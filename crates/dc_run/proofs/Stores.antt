@@ -1,5 +1,5 @@
 -- Each store of a run fits the declared variables, and those around its loops are among them.
-use Rattle.std.proofs.Common.{◌≡◌, ℕ, ◌+◌, Bool, true, false, ◌&&◌, List, [], ◌∷◌, map, length, All, Some, None, Result, Ok, Err, lit<}
+use Rattle.std.proofs.Common.{◌≡◌, ℕ, ◌+◌, Bool, true, false, ◌&&◌, List, [], ◌∷◌, length, All, Some, None, Result, Ok, Err, lit<}
 use Rattle.std.proofs.lemmas.Bool.{and_parts}
 use Rattle.std.proofs.lemmas.List.Elements.{All-nil, All-cons, All-weaker, Contains-get_or, Contains-append_left, Contains-append_right}
 use Rattle.std.specs.Prelude.{ℤ, pos, nat_le, if◌then◌else◌}

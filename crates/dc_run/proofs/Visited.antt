@@ -14,8 +14,8 @@ use Rattle.dc_code.specs.Troubles.{Trouble, Slots, Computing, write_line, take_v
 use Rattle.dc_code.specs.Verdicts.{Verdict, go_on, at_header, in_iteration, race, verdict, visited_by, judged_by, judgement, trouble_in, seen}
 use Rattle.dc_code.specs.Visits.{Visited, visited}
 use Rattle.dc_code.proofs.Stores.{shape-after, shape-then}
-use Rattle.dc_meaning.specs.Visiting.{visit_of, IsVisit}
-use Rattle.dc_run.specs.Running.{loop_in, KeepsShape}
+use Rattle.dc_meaning.specs.Visiting.{visit_of}
+use Rattle.dc_run.specs.Running.{loop_in, KeepsShape, IsVisitWith}
 
 pub same-shape : (store : Store) → SameShape store store
 same-shape store = record { elements = λ x. refl; bounds = λ variable. refl }
@@ -112,13 +112,13 @@ judged-shape loop keeps store (paused event rest) = absurd event
 visited-shape : (loop : Loop) → KeepsShape loop → (turns : ℕ) (store : Store) → SameShape store (visited judging loop turns store).store
 visited-shape loop keeps turns store = judged-shape loop keeps store (over store (header_of loop.form turns)).reached
 
-pub visit-store : (said : Verdict) (after : Store) → (visit_of said after 0).store ≡ after
-visit-store go_on after = refl
-visit-store (at_header trouble) after = refl
-visit-store (in_iteration trouble at) after = refl
-visit-store (race found first second) after = refl
+pub visit-store : (said : Verdict) (after : Store) (left : ℕ) → (visit_of said after left).store ≡ after
+visit-store go_on after left = refl
+visit-store (at_header trouble) after left = refl
+visit-store (in_iteration trouble at) after left = refl
+visit-store (race found first second) after left = refl
 
 -- What a visit leaves.
-pub left-shape : (loop : Loop) → KeepsShape loop → (before after : Store) (said : answers.Verdict) → IsVisit loop before after said → SameShape before after
-left-shape loop keeps before after said visit =
-    subst (SameShape before) (ap (λ (found : Visited). found.store) (visit.is 0) ∙ visit-store (seen said) after) (visited-shape loop keeps 0 before)
+pub left-shape : (loop : Loop) → KeepsShape loop → (turns left : ℕ) (before after : Store) (said : answers.Verdict) → IsVisitWith loop turns left before after said → SameShape before after
+left-shape loop keeps turns left before after said visit =
+    subst (SameShape before) (ap (λ (found : Visited). found.store) visit.is ∙ visit-store (seen said) after left) (visited-shape loop keeps turns before)

@@ -13,7 +13,7 @@ use Rattle.dc_tree.specs.declared.symbols.Role.{Role}
 use Rattle.dc_tree.specs.declared.symbols.Symbol.{Symbol}
 use Rattle.dc_tree.specs.Blocks.{Source}
 use Rattle.dc_run.specs.declared.ending.Ending as endings
-use Rattle.dc_run.specs.declared.running.RunOut.{RunOut}
+use Rattle.dc_run.specs.declared.ending.RunOut.{RunOut}
 use Rattle.dc_run.specs.Playing.{run}
 use Rattle.dc_run.specs.ReportLine.{Ending, done, bad, stopped, is_outside, outside_names, side_text, trouble_text}
 

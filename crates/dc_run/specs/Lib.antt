@@ -1,7 +1,12 @@
 pub mod Answered
 pub mod Headline
+pub mod LoopPlaces
+pub mod Opening
 pub mod Playing
 pub mod ReportLine
+pub mod Resuming
 pub mod Running
 pub mod Stores
+pub mod Tasks
+pub mod Variables
 pub mod Visits

@@ -3,12 +3,16 @@
 
 mod ending;
 mod law;
+mod loops;
+mod opening;
+mod program;
 mod report;
 mod running;
+mod standing;
+mod variables;
 mod whole;
 mod writing;
 
-pub use ending::Ending;
+pub use ending::{Ending, RunOut};
 pub use law::subscripts_lead_back;
-pub use running::RunOut;
 pub use whole::{report_line, run};

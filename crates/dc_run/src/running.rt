@@ -1,154 +1,41 @@
-//! The run of a main program, statement by statement.
+//! The run of a main program by its code, from one pause of the machine to the next.
 
-ghost use Rattle.std.specs.Prelude.{◌≡◌, ◌+◌, IsTrue, IfOk, List, map, ℕ};
-ghost use Rattle.std.specs.List.{list_all};
+ghost use Rattle.std.specs.Prelude.{◌≡◌, ◌≤◌, ◌<◌, IsTrue, IfOk, OnOk, List, [], false, length, slice_get, Some, ℕ};
+ghost use Rattle.dc_code.specs.declared.instr.What.{What};
+ghost use Rattle.dc_code.specs.Codes.{CodeLists};
+ghost use Rattle.dc_code.specs.Frames.{with_line};
 ghost use Rattle.dc_code.specs.Inner.{Forms};
 ghost use Rattle.dc_code.specs.Loops.{Loop};
-ghost use Rattle.dc_tree.specs.Blocks.{item, items, items_from, line_of, source_of};
-ghost use Rattle.dc_tree.specs.BuiltPrograms.{are_built_symbols, is_held, is_built_assignment, is_built_line, is_built_item, are_built_items, is_built};
-ghost use Rattle.dc_tree.specs.Entities.{main_scope};
-ghost use Rattle.dc_tree.specs.Statements.{deed, statement};
-ghost use Rattle.dc_tree.specs.Syntax.{tree};
+ghost use Rattle.dc_tree.specs.declared.symbols.Symbol.{Symbol};
+ghost use Rattle.dc_tree.specs.Blocks.{items, line_of, source_of};
 ghost use Rattle.dc_entities.specs.Numbering.{numbers_of};
-ghost use Rattle.dc_meaning.specs.Actions as actions;
-ghost use Rattle.dc_meaning.specs.Execution as execution;
-ghost use Rattle.dc_meaning.specs.Visiting.{IsVisitable};
+ghost use Rattle.dc_tree.specs.BuiltPrograms.{are_built_symbols};
+ghost use Rattle.dc_run.specs.declared.ending.Ending.{Ending};
+ghost use Rattle.dc_run.specs.declared.standing.Step.{Step};
 ghost use Rattle.dc_run.specs.Answered.{IsRunOf, NamesOwn};
-ghost use Rattle.dc_run.specs.Playing.{Looping};
-ghost use Rattle.dc_run.specs.Running.{IsEndBy, stopped_by, Steps, IsUsual, IsCounted, RunsSo, KeepsShape, AccessesOwn, IsVisitableAt, AreVisitable, EndsSo, looping_in};
+ghost use Rattle.dc_run.specs.Playing.{Looping, greatest_output};
+ghost use Rattle.dc_run.specs.Resuming.{IsUsual, Attends, IsReachable};
+ghost use Rattle.dc_run.specs.Running.{stopped_by, step_behind, looping_in, IsVisitWith};
+ghost use Rattle.dc_run.specs.Variables.{Held, held_by};
+ghost use Rattle.dc_steps.specs.Ready.{AreReady};
+ghost use Rattle.dc_run.specs.Tasks.{IsTask, IsPause, Advances, EndsSo, beginning};
 
 use crate::ending::Ending;
+use crate::loops::find_loop;
+use crate::opening::{Opened, open};
+use crate::standing::{Found, Judged, Standing, Step, Task};
+use crate::variables::Variables;
 use crate::writing::write_line;
-use dc_code::Verdict;
+use dc_code::{Code, Verdict, What};
 use dc_entities::Numbering;
-use dc_meaning::{Stop, pieces_of, visit};
+use dc_frame::Frame;
+use dc_int::Why;
+use dc_meaning::visit;
 use dc_plain::Ledger;
-use dc_text::{DcText, NoMemory};
-use dc_tree::{Action, Block, Expr, Lined, Node, Program, Stmt, Symbols};
+use dc_steps::Ended;
+use dc_text::{DcList, DcText, NoMemory};
+use dc_tree::Symbols;
 use std::alloc::Global;
-
-/// What a run wrote, and how it ended.
-#[derive(Drop)]
-pub struct RunOut {
-    pub output: DcText,
-    pub ending: Ending,
-}
-
-/// Where a run stands: its variables, what it wrote, and how many loops it reached.
-#[derive(Drop)]
-pub(crate) struct Standing {
-    pub ledger: Ledger,
-    pub output: DcText,
-    pub loops: usize,
-}
-
-/// The end of a run by a statement that isn't carried out.
-fn ended(stop: Stop) -> Result<Option<Ending>, NoMemory>
-    ensures { IfOk result (λ met. IsEndBy stop met) }
-{
-    match stop {
-        Stop::Failed { why, line } => Ok(Some(Ending::Bad { why, line })),
-        Stop::NoMemory => Err(NoMemory),
-    }
-}
-
-/// Carries out an assignment.
-fn assign(
-    alloc: Global,
-    symbols: &Symbols,
-    numbering: &Numbering,
-    line: u32,
-    action: &Action,
-    standing: &mut Standing,
-) -> Result<Option<Ending>, NoMemory>
-    requires symbols { IsTrue (are_built_symbols symbols.now) }
-    requires numbers { numbering.now ≡ numbers_of symbols.now }
-    requires built { IsTrue (is_built_assignment (deed action.now)) }
-    requires usual { IsUsual symbols.now standing.old }
-    ensures steps { (looping : Looping) → IfOk result (λ met.
-        Steps looping symbols.now standing.old standing.new
-        (λ call. actions.act (main_scope symbols.now) call line (deed action.now)) met) }
-    ensures usual { IfOk result (λ met. IsUsual symbols.now standing.new) }
-    ensures loops { (standing.new).loops ≡ (standing.old).loops }
-{
-    match dc_meaning::perform(
-        alloc,
-        symbols,
-        numbering,
-        &mut standing.ledger,
-        line,
-        action,
-    ) {
-        Ok(()) => Ok(None),
-        Err(stop) => ended(stop),
-    }
-}
-
-/// Writes a line of items, once all of them are evaluated.
-fn print(
-    alloc: Global,
-    symbols: &Symbols,
-    numbering: &Numbering,
-    line: u32,
-    items: &[Expr],
-    standing: &mut Standing,
-) -> Result<Option<Ending>, NoMemory>
-    requires symbols { IsTrue (are_built_symbols symbols.now) }
-    requires numbers { numbering.now ≡ numbers_of symbols.now }
-    requires held { IsTrue (list_all is_held (map tree items.now)) }
-    requires usual { IsUsual symbols.now standing.old }
-    ensures steps { (looping : Looping) → IfOk result (λ met.
-        Steps looping symbols.now standing.old standing.new
-        (λ call. actions.printing (main_scope symbols.now) call line (map tree items.now))
-        met) }
-    ensures usual { IfOk result (λ met. IsUsual symbols.now standing.new) }
-    ensures loops { (standing.new).loops ≡ (standing.old).loops }
-{
-    match pieces_of(alloc, symbols, numbering, &mut standing.ledger, line, items) {
-        Ok(given) => write_line(alloc, line, given.as_slice(), &mut standing.output),
-        Err(stop) => ended(stop),
-    }
-}
-
-/// Carries out a statement that is no loop.
-fn perform(
-    alloc: Global,
-    symbols: &Symbols,
-    numbering: &Numbering,
-    lined: &Lined,
-    standing: &mut Standing,
-) -> Result<Option<Ending>, NoMemory>
-    requires symbols { IsTrue (are_built_symbols symbols.now) }
-    requires numbers { numbering.now ≡ numbers_of symbols.now }
-    requires built { IsTrue (is_built_line (statement (lined.now).stmt)) }
-    requires usual { IsUsual symbols.now standing.old }
-    ensures steps { (looping : Looping) → IfOk result (λ met.
-        Steps looping symbols.now standing.old standing.new
-        (λ call. execution.plain_line (main_scope symbols.now) call (line_of lined.now)) met) }
-    ensures usual { IfOk result (λ met. IsUsual symbols.now standing.new) }
-    ensures loops { (standing.new).loops ≡ (standing.old).loops }
-{
-    let Stmt::Act(action) = &lined.stmt else {
-        unreachable!()
-    };
-    standing.ledger.forget_accesses();
-    match action {
-        Action::Print { items, .. } => {
-            print(
-                alloc,
-                symbols,
-                numbering,
-                lined.line,
-                items.as_slice(),
-                standing,
-            )
-        }
-        Action::Assign { .. } | Action::Fill { .. } => {
-            assign(alloc, symbols, numbering, lined.line, action, standing)
-        }
-        _ => unreachable!(),
-    }
-}
 
 /// The end of a run by what is said of a loop, unless the loop goes on.
 fn stopped(said: Verdict) -> Option<Ending>
@@ -160,143 +47,213 @@ fn stopped(said: Verdict) -> Option<Ending>
     }
 }
 
-/// Judges a loop, and goes on with what it leaves.
-fn run_loop(
-    alloc: Global,
-    symbols: &Symbols,
-    numbering: &Numbering,
-    head: &Lined,
-    body: &Block,
-    standing: &mut Standing,
-) -> Result<Option<Ending>, NoMemory>
-    ghost parts: { Loop }
-    requires visitable { IsVisitable parts symbols.now (head.now).line
-        (statement (head.now).stmt) (items body.now) }
-    requires numbers { numbering.now ≡ numbers_of symbols.now }
-    requires keeps { KeepsShape parts }
-    requires owns { AccessesOwn symbols.now parts }
-    requires usual { IsUsual symbols.now standing.old }
-    requires counted { IsCounted standing.old }
-    ensures steps { (looping : Looping) → RunsSo looping (standing.old).loops parts
-        → IfOk result (λ met.
-        Steps looping symbols.now standing.old standing.new
-        (λ call. execution.concurrent_do (standing.old).loops) met) }
-    ensures usual { IfOk result (λ met. IsUsual symbols.now standing.new) }
-    ensures loops { IfOk result (λ met. (standing.new).loops ≡ (standing.old).loops + 1) }
+/// The run goes on behind a place with so many turns, unless it ends there.
+fn step_behind(at: u32, turns: u64, met: Option<Ending>) -> Step
+    requires { at < 4294967295 }
+    ensures { result ≡ step_behind at turns met }
 {
-    let said = visit(alloc, symbols, numbering, head, body, &mut standing.ledger)?;
-    standing.loops += 1;
-    Ok(stopped(said))
-}
-
-/// Carries out a statement or a loop.
-fn step(
-    alloc: Global,
-    symbols: &Symbols,
-    numbering: &Numbering,
-    node: &Node,
-    standing: &mut Standing,
-) -> Result<Option<Ending>, NoMemory>
-    ghost forms: { Forms }
-    requires symbols { IsTrue (are_built_symbols symbols.now) }
-    requires numbers { numbering.now ≡ numbers_of symbols.now }
-    requires built { IsTrue (is_built_item (main_scope symbols.now) (item node.now)) }
-    requires visitable { IsVisitableAt forms symbols.now (standing.old).loops (item node.now) }
-    requires usual { IsUsual symbols.now standing.old }
-    requires counted { IsCounted standing.old }
-    ensures steps { IfOk result (λ met.
-        Steps (looping_in forms) symbols.now standing.old standing.new
-        (λ call. execution.exec (main_scope symbols.now) call (standing.old).loops
-        (item node.now)) met) }
-    ensures usual { IfOk result (λ met. IsUsual symbols.now standing.new) }
-    ensures loops { IfOk result (λ met. (standing.new).loops
-        ≡ (standing.old).loops + execution.loops_in (item node.now)) }
-{
-    match node {
-        Node::Plain(lined) => perform(alloc, symbols, numbering, lined, standing),
-        Node::Loop { head, body, .. } => run_loop(alloc, symbols, numbering, head, body, standing),
-        Node::If { .. } | Node::Select { .. } => unreachable!(),
+    match met {
+        Some(ending) => Step::Over(ending),
+        None => Step::On { at: at + 1, turns },
     }
 }
 
-/// Carries out statements and loops in their order, up to the last or where the run ends before.
-fn run_nodes(
+/// Opens a loop that is reached with so many turns, and judges it.
+fn judge_loop(
     alloc: Global,
-    symbols: &Symbols,
-    numbering: &Numbering,
-    nodes: &[Node],
+    task: Task<'_>,
+    found: Found<'_>,
+    turns: u64,
+    variables: &mut Variables,
+) -> Result<Judged, NoMemory>
+    ghost parts: { Loop }
+    requires numbers { task.numbering.now ≡ numbers_of task.symbols.now }
+    requires reachable { IsReachable parts task.symbols.now task.code.now found.number
+        (line_of found.head.now) (items found.body.now) }
+    requires few { length task.code.now.instructions < 4294967296 }
+    requires ready { AreReady task.code.now (λ (held : Held). held.shapes)
+        (λ (held : Held). held.store) (held_by variables.old) }
+    ensures said { IfOk result (λ judged. IsVisitWith parts turns judged.turns
+        (variables.old).ledger.store (variables.new).ledger.store judged.said) }
+    ensures shapes { OnOk result ((variables.new).shapes ≡ (variables.old).shapes) }
+{
+    match open(alloc, task, found, turns, variables)? {
+        Opened::Between { limits, turns } => {
+            let ledger = &mut variables.ledger;
+            let said = visit(
+                alloc,
+                task.symbols,
+                task.numbering,
+                found.head,
+                found.body,
+                limits,
+                ledger,
+            )?;
+            Ok(Judged { said, turns })
+        }
+        Opened::Bad { why, line } => Ok(Judged {
+            said: Verdict::HeaderFault {
+                why,
+                line,
+                mask: None,
+            },
+            turns,
+        }),
+    }
+}
+
+/// Judges the loop of a number, and goes on behind a place with what it leaves.
+fn enter(
+    alloc: Global,
+    task: Task<'_>,
+    number: u32,
+    at: u32,
+    turns: u64,
+    standing: &mut Standing,
+) -> Result<Step, NoMemory>
+    ghost forms: { Forms }
+    requires task { IsTask forms task }
+    requires there { number < length task.loops.now }
+    requires place { at < 4294967295 }
+    requires usual { IsUsual task.symbols.now task.code.now standing.old }
+    ensures attends { IfOk result (λ step. (line : ℕ)
+        → slice_get task.entry.code.now.instructions at
+        ≡ Some (record { line = line; what = What.Enter number })
+        → Attends (looping_in forms) task.entry.symbols.now task.entry.code.now at turns
+        standing.old standing.new step) }
+    ensures usual { IfOk result (λ step.
+        IsUsual task.entry.symbols.now task.entry.code.now standing.new) }
+    ensures frame { (standing.new).frame ≡ (standing.old).frame }
+{
+    let found = find_loop(task, number);
+    let judged = judge_loop(alloc, task, found, turns, &mut standing.variables)?;
+    Ok(step_behind(at, judged.turns.min(turns), stopped(judged.said)))
+}
+
+/// Writes the line that the machine holds, and goes on behind a place.
+fn put_line(line: u32, at: u32, turns: u64, standing: &mut Standing) -> Result<Step, NoMemory>
+    requires place { at < 4294967295 }
+    requires room { length (standing.old).output ≤ greatest_output }
+    ensures attends { (looping : Looping) (symbols : List Symbol) (code : CodeLists)
+        → slice_get code.instructions at ≡ Some (record { line = line; what = What.PutEnd })
+        → IfOk result (λ step. Attends looping symbols code at turns
+        standing.old standing.new step) }
+    ensures usual { (symbols : List Symbol) (code : CodeLists) → IsUsual symbols code standing.old
+        → IfOk result (λ step. IsUsual symbols code standing.new) }
+    ensures frame { OnOk result
+        ((standing.new).frame ≡ with_line [] false (standing.old).frame) }
+{
+    let met = write_line(line, standing.frame.line(), &mut standing.output)?;
+    standing.frame.clear_line();
+    Ok(step_behind(at, turns, met))
+}
+
+/// Does what the pause at a place asks for, where so many turns are left.
+fn attend(
+    alloc: Global,
+    task: Task<'_>,
+    at: u32,
+    turns: u64,
+    standing: &mut Standing,
+) -> Result<Step, NoMemory>
+    ghost forms: { Forms }
+    requires task { IsTask forms task }
+    requires paused { IsPause task.code.now at }
+    requires usual { IsUsual task.symbols.now task.code.now standing.old }
+    ensures attends { IfOk result (λ step.
+        Attends (looping_in forms) task.entry.symbols.now task.entry.code.now at turns
+        standing.old standing.new step) }
+    ensures usual { IfOk result (λ step.
+        IsUsual task.entry.symbols.now task.entry.code.now standing.new) }
+    ensures units { OnOk result
+        ((standing.new).frame.units ≡ (standing.old).frame.units) }
+{
+    let instr = task.code.instructions()[at as usize];
+    match instr.what {
+        What::PutEnd => put_line(instr.line, at, turns, standing),
+        What::Enter { c } => enter(alloc, task, c, at, turns, standing),
+        _ => unreachable!(),
+    }
+}
+
+/// Runs on from a place up to the next pause, and does what that asks for.
+fn advance(
+    alloc: Global,
+    task: Task<'_>,
+    at: u32,
+    turns: u64,
+    standing: &mut Standing,
+) -> Result<Step, NoMemory>
+    ghost forms: { Forms }
+    requires task { IsTask forms task }
+    requires usual { IsUsual task.symbols.now task.code.now standing.old }
+    ensures advances { IfOk result (λ step.
+        Advances (looping_in forms) task.entry.symbols.now task.entry.code.now at turns
+        standing.old standing.new step) }
+    ensures usual { IfOk result (λ step.
+        IsUsual task.entry.symbols.now task.entry.code.now standing.new) }
+{
+    let ended = dc_vm::run(
+        alloc,
+        task.code,
+        at,
+        &mut standing.frame,
+        &mut standing.variables,
+        turns,
+    );
+    match ended {
+        Ended::Done { .. } => Ok(Step::Over(Ending::Done)),
+        Ended::Fault { why, line } => Ok(bad(Why::Fault(why), line)),
+        Ended::Spent { line } => Ok(bad(Why::Spent, line)),
+        Ended::NoMemory => Err(NoMemory),
+        Ended::Paused { at, turns } => attend(alloc, task, at, turns, standing),
+    }
+}
+
+/// The end of a run by a statement that isn't carried out.
+fn bad(why: Why, line: u32) -> Step
+    ensures { result ≡ Step.Over (Ending.Bad why line) }
+{
+    Step::Over(Ending::Bad { why, line })
+}
+
+/// Runs from the beginning of a code to the end of the run.
+pub(crate) fn run_code(
+    alloc: Global,
+    task: Task<'_>,
+    turns: u64,
     standing: &mut Standing,
 ) -> Result<Ending, NoMemory>
     ghost forms: { Forms }
-    requires symbols { IsTrue (are_built_symbols symbols.now) }
-    requires numbers { numbering.now ≡ numbers_of symbols.now }
-    requires built { IsTrue (are_built_items (main_scope symbols.now)
-        (items_from (map item nodes.now))) }
-    requires visitable { AreVisitable forms symbols.now (items_from (map item nodes.now)) }
-    requires usual { IsUsual symbols.now standing.old }
-    requires first { (standing.old).loops ≡ 0 }
+    requires task { IsTask forms task }
+    requires usual { IsUsual task.symbols.now task.code.now standing.old }
     ensures { IfOk result (λ ending.
-        EndsSo forms symbols.now (main_scope symbols.now) (items_from (map item nodes.now))
+        EndsSo (looping_in forms) task.entry.symbols.now task.entry.code.now turns
         standing.old standing.new ending) }
 {
-    for node in nodes {
-        if let Some(ending) = step(alloc, symbols, numbering, node, standing)? {
-            return Ok(ending);
+    let mut at = 0;
+    let mut left = turns;
+    loop {
+        match advance(alloc, task, at, left, standing)? {
+            Step::On { at: next, turns } => {
+                at = next;
+                left = turns;
+            }
+            Step::Over(ending) => return Ok(ending),
         }
     }
-    Ok(Ending::Done)
 }
 
-/// Carries out the statements of a main program.
-fn run_body(
-    alloc: Global,
-    program: &Program,
-    symbols: &Symbols,
-    _turns: u64,
-    standing: &mut Standing,
-) -> Result<Ending, NoMemory>
-    ghost forms: { Forms }
-    requires symbols { IsTrue (are_built_symbols symbols.now) }
-    requires built { IsTrue (are_built_items (main_scope symbols.now) (items (program.now).body)) }
-    requires visitable { AreVisitable forms symbols.now (items (program.now).body) }
-    requires usual { IsUsual symbols.now standing.old }
-    requires first { (standing.old).loops ≡ 0 }
-    ensures { IfOk result (λ ending.
-        EndsSo forms symbols.now (main_scope symbols.now) (items (program.now).body)
-        standing.old standing.new ending) }
-{
-    let numbering = Numbering::new(alloc, symbols)?;
-    run_nodes(
-        alloc,
-        symbols,
-        &numbering,
-        program.body.nodes.as_slice(),
-        standing,
-    )
-}
-
-/// Runs a main program with so many turns: what it writes, and how it ends. No program of today spends one.
-pub(crate) fn run_program(
-    alloc: Global,
-    program: &Program,
-    symbols: &Symbols,
-    turns: u64,
-) -> Result<RunOut, NoMemory>
-    requires { IsTrue (is_built symbols.now (source_of program.now)) }
-    ensures is { IfOk result (λ out. (given : List ℕ)
-        → IsRunOf symbols.now (source_of program.now) turns given out) }
-    ensures owns { IfOk result (λ out. NamesOwn symbols.now out.ending) }
+/// Where a run of a code begins.
+pub(crate) fn begin(alloc: Global, symbols: &Symbols, code: &Code) -> Result<Standing, NoMemory>
+    requires names { IsTrue (are_built_symbols symbols.now) }
+    ensures { IfOk result (λ standing. standing ≡ beginning symbols.now code.now) }
 {
     let ledger = Ledger::initial(alloc, symbols)?;
-    let output = DcText::new(alloc);
-    let mut standing = Standing {
-        ledger,
-        output,
-        loops: 0,
-    };
-    let ending = run_body(alloc, program, symbols, turns, &mut standing)?;
-    Ok(RunOut {
-        output: standing.output,
-        ending,
+    let shapes = DcList::from_vec(Vec::from_slice(alloc, code.shapes())?);
+    Ok(Standing {
+        variables: Variables { ledger, shapes },
+        frame: Frame::new(alloc, code, 0)?,
+        output: DcText::new(alloc),
     })
 }

@@ -8,9 +8,9 @@ ghost use Rattle.dc_run.specs.Answered.{ending_of, NamesOwn};
 ghost use Rattle.dc_run.specs.Headline.{Reports};
 ghost use Rattle.dc_run.specs.ReportLine as lines;
 
-use crate::ending::Ending;
+use crate::ending::{Ending, RunOut};
+use crate::program::run_program;
 use crate::report::ending_line;
-use crate::running::{RunOut, run_program};
 use dc_front::Accepted;
 use dc_outer::Gate;
 use dc_text::{DcText, NoMemory};

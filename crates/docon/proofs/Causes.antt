@@ -1,7 +1,6 @@
 -- From the report that a call wrote to the cause of its answer.
-use Rattle.std.proofs.Common.{◌≡◌, ◌≤◌, ℕ, Bool, true, false, List, take, Option, Some, None, refl, sym, ap, ◌∙◌, subst, inl, inr, arith}
+use Rattle.std.proofs.Common.{◌≡◌, ◌≤◌, ℕ, true, false, List, take, Option, Some, None, refl, sym, ap, ◌∙◌, subst, inl, inr, arith}
 use Rattle.std.specs.Prelude.{MatchOption, IfSome, IsSome, option_map, codes, ◌⊎◌}
-use Rattle.std.proofs.lemmas.Bool.{false≢true}
 use Rattle.dc_int.specs.declared.fault.Why.{Why}
 use Rattle.dc_code.specs.Troubles as troubles
 use Rattle.dc_code.specs.Troubles.{Trouble, masked, raced}
@@ -15,10 +14,10 @@ use Rattle.dc_run.specs.ReportLine.{Ending}
 use Rattle.docon.specs.Answers.{Answers}
 use Rattle.docon.specs.declared.command.Task.{Task}
 use Rattle.docon.specs.declared.report.Report.{Report}
-use Rattle.docon.specs.Report.{Reading, Outcome, contents, fault, file_of, task_of, read_limit, only_log, run_of, status_of_why, status_of_trouble, status_of, RunReport, CheckReport, RefusalReport, IsTaskReport, IsSourceReport, IsReportOf, IsReport, HasOutcome, Reported}
+use Rattle.docon.specs.Report.{Reading, Outcome, contents, fault, file_of, task_of, read_limit, only_log, run_of, status_of_why, status_of_trouble, status_of, RunReport, CheckReport, CodeReport, RefusalReport, IsTaskReport, IsSourceReport, IsReportOf, IsReport, HasOutcome, Reported}
 use Rattle.docon.specs.Room.{Fits}
 use Rattle.docon.specs.Writing.{Change, Took, Untouched, WroteAll, WritesReport, IsWritten}
-use Rattle.docon.specs.Causes.{IsAccepted, IsRefused, Gave, Tells, IsStatus, IsUnlessFailed, Ran, RanWith, Checked, EndsWithStatus, AnswersRun, CausesOfDone, CausesOfRun, CausesOfRefused, CausesOfWords, CausesOfRead, IsCutShort, CausesOfWrite, HaveRoom, CausesOfMemory, Causes, NothingFailed, IsComplete}
+use Rattle.docon.specs.Causes.{IsAccepted, IsRefused, Gave, Tells, IsStatus, IsUnlessFailed, Ran, RanWith, Checked, Listed, EndsWithStatus, AnswersRun, AnswersAccepted, CausesOfDone, CausesOfRun, CausesOfRefused, CausesOfWords, CausesOfRead, IsCutShort, CausesOfWrite, HaveRoom, CausesOfMemory, Causes, NothingFailed, IsComplete}
 
 -- the call wrote its report or gave up
 abbrev pub Wrote : {W L : Type 0} → Reading → Change W → Change L → ℕ → Type 0
@@ -62,12 +61,14 @@ pub data Kind (asked : Reading) (report : Report) : Type 0 where
   of_words : file_of asked.words ≡ None → report ≡ only_log (codes "words: command") 5 → Kind asked report
   of_run : (text : List ℕ) → Gave asked text → task_of asked.words ≡ Task.Run → RunReport text report → Kind asked report
   of_check : (text : List ℕ) → Gave asked text → task_of asked.words ≡ Task.Check → CheckReport text report → Kind asked report
+  of_code : (text : List ℕ) → Gave asked text → task_of asked.words ≡ Task.Code → CodeReport text report → Kind asked report
   of_refusal : (text : List ℕ) → Gave asked text → RefusalReport text report → Kind asked report
   of_fault : IsSome (file_of asked.words) → Rose asked.before asked.now → report ≡ only_log (codes "read: file") 6 → Kind asked report
 
 kind_of_task : (asked : Reading) (report : Report) (text : List ℕ) → Gave asked text → (task : Task) → task_of asked.words ≡ task → IsTaskReport task text report → Kind asked report
 kind_of_task asked report text read Task.Run asks run = of_run text read asks run
 kind_of_task asked report text read Task.Check asks check = of_check text read asks check
+kind_of_task asked report text read Task.Code asks code = of_code text read asks code
 
 kind_of_outcome : (asked : Reading) (report : Report) (file : List ℕ) → file_of asked.words ≡ Some file → (outcome : Outcome) → HasOutcome (asked.told file) asked.before asked.now outcome → IsReportOf (task_of asked.words) outcome report
     → Kind asked report
@@ -89,6 +90,7 @@ kind_of asked report reported = kind_of_name asked report (file_of asked.words) 
 pub data Ended {W L : Type 0} (asked : Reading) (out : Change W) (log : Change L) (answer : ℕ) : Type 0 where
   with_run : (ran : Ran asked out log) → Steady out log → answer ≡ ran.report.status → answer ≤ 4 → ¬ (answer ≡ 1) → Ended asked out log answer
   with_check : Checked asked out log → Steady out log → answer ≡ 0 → Ended asked out log answer
+  with_code : Listed asked out log → Steady out log → answer ≡ 0 → Ended asked out log answer
   with_refused : (text : List ℕ) → Gave asked text → IsRefused text → Steady out log → answer ≡ 1 → Ended asked out log answer
   with_words : file_of asked.words ≡ None → Steady out log → answer ≡ 5 → Ended asked out log answer
   with_read : IsSome (file_of asked.words) → Rose asked.before asked.now → Steady out log → answer ≡ 6 → Ended asked out log answer
@@ -111,6 +113,17 @@ ended_whole asked out log answer report (of_check text read asks check) all =
       log_all = subst (λ (x : Report). Took log x.log) check.is all.log_all;
     } in
     with_check checked (steady_of report out log answer all) (all.answer_is ∙ ap (λ (x : Report). x.status) check.is)
+ended_whole asked out log answer report (of_code text read asks code) all =
+    let listed : Listed asked out log = record {
+      task = asks;
+      text = text;
+      read = read;
+      report = report;
+      code = code;
+      out_all = all.out_all;
+      log_all = all.log_all;
+    } in
+    with_code listed (steady_of report out log answer all) (all.answer_is ∙ code.listed.status_is)
 ended_whole asked out log answer report (of_run text read asks run) all =
     let ran : Ran asked out log = record {
       task = asks;
@@ -141,6 +154,7 @@ ended asked out log answer (inr wrote) = ended_written asked out log answer wrot
 status_of_ended : {W L : Type 0} (asked : Reading) (out : Change W) (log : Change L) (answer : ℕ) → Ended asked out log answer → IsStatus answer
 status_of_ended asked out log answer (with_run ran steady is most other) = omega arith
 status_of_ended asked out log answer (with_check checked steady is) = omega arith
+status_of_ended asked out log answer (with_code listed steady is) = omega arith
 status_of_ended asked out log answer (with_refused text read refused steady is) = omega arith
 status_of_ended asked out log answer (with_words nameless steady is) = omega arith
 status_of_ended asked out log answer (with_read named rose steady is) = omega arith
@@ -165,28 +179,29 @@ not_none word file nameless some = let no : None ≡ Some file = sym nameless �
 only_run : {W L : Type 0} (status : ℕ) → status ≤ 4 → ¬ (status ≡ 1) → ¬ (status ≡ 0) → (asked : Reading) (out : Change W) (log : Change L) (answer : ℕ) → Ended asked out log answer → answer ≡ status → RanWith status asked out log
 only_run status few other some asked out log answer (with_run ran steady is most apart) same = record { ran = ran; is = sym is ∙ same }
 only_run status few other some asked out log answer (with_check checked steady is) same = absurd (some (sym same ∙ is))
+only_run status few other some asked out log answer (with_code listed steady is) same = absurd (some (sym same ∙ is))
 only_run status few other some asked out log answer (with_refused text read refused steady is) same = absurd (other (sym same ∙ is))
 only_run status few other some asked out log answer (with_words nameless steady is) same = absurd (omega arith)
 only_run status few other some asked out log answer (with_read named rose steady is) same = absurd (omega arith)
 only_run status few other some asked out log answer (with_write report reported cut is) same = absurd (omega arith)
 only_run status few other some asked out log answer (with_memory out_none log_none is) same = absurd (omega arith)
 
-only_done : {W L : Type 0} (asked : Reading) (out : Change W) (log : Change L) (answer : ℕ) → Ended asked out log answer → answer ≡ 0 → RanWith 0 asked out log ⊎ Checked asked out log
+only_done : {W L : Type 0} (asked : Reading) (out : Change W) (log : Change L) (answer : ℕ) → Ended asked out log answer → answer ≡ 0 → RanWith 0 asked out log ⊎ (Checked asked out log ⊎ Listed asked out log)
 only_done asked out log answer (with_run ran steady is most apart) same = inl (record { ran = ran; is = sym is ∙ same })
-only_done asked out log answer (with_check checked steady is) same = inr checked
+only_done asked out log answer (with_check checked steady is) same = inr (inl checked)
+only_done asked out log answer (with_code listed steady is) same = inr (inr listed)
 only_done asked out log answer (with_refused text read refused steady is) same = absurd (omega arith)
 only_done asked out log answer (with_words nameless steady is) same = absurd (omega arith)
 only_done asked out log answer (with_read named rose steady is) same = absurd (omega arith)
 only_done asked out log answer (with_write report reported cut is) same = absurd (omega arith)
 only_done asked out log answer (with_memory out_none log_none is) same = absurd (omega arith)
 
-abbrev is_check : Task → Bool
-is_check Task.Run = false
-is_check Task.Check = true
+-- neither a check nor a listing is a run
+check_is_no_run : ¬ (Task.Check ≡ Task.Run)
+check_is_no_run same = cc
 
--- words ask for one task
-one_task : (words : List (List ℕ)) → task_of words ≡ Task.Run → task_of words ≡ Task.Check → ⊥
-one_task words run check = false≢true (ap is_check (sym run ∙ check))
+code_is_no_run : ¬ (Task.Code ≡ Task.Run)
+code_is_no_run same = cc
 
 -- a source has one program, so its run has one status
 one_status : (text : List ℕ) (report : Report) (run : RunReport text report) (status : ℕ) → EndsWithStatus status text → report.status ≡ status
@@ -202,7 +217,8 @@ not_both text refused accepted = one-answer text refused.0 accepted.0 accepted.1
 wherever_run : {W L : Type 0} (status : ℕ) (asked : Reading) (out : Change W) (log : Change L) (answer : ℕ) → Ended asked out log answer → AnswersRun status asked answer
 wherever_run status asked out log answer (with_run ran steady is most other) asks text tells ends =
     inl (is ∙ one_status ran.text ran.report ran.run status (subst (EndsWithStatus status) (sym (given_is_told asked ran.text text ran.read tells)) ends))
-wherever_run status asked out log answer (with_check checked steady is) asks text tells ends = absurd (one_task asked.words asks checked.task)
+wherever_run status asked out log answer (with_check checked steady is) asks text tells ends = absurd (check_is_no_run (sym checked.task ∙ asks))
+wherever_run status asked out log answer (with_code listed steady is) asks text tells ends = absurd (code_is_no_run (sym listed.task ∙ asks))
 wherever_run status asked out log answer (with_refused given read refused steady is) asks text tells ends =
     absurd (not_both given refused (subst IsAccepted (sym (given_is_told asked given text read tells)) (ends.program, ends.symbols, ends.spelled)))
 wherever_run status asked out log answer (with_words nameless steady is) asks text tells ends = absurd (not_none (file_of asked.words) tells.file nameless tells.named)
@@ -210,16 +226,16 @@ wherever_run status asked out log answer (with_read named rose steady is) asks t
 wherever_run status asked out log answer (with_write report reported cut is) asks text tells ends = inr (inl is)
 wherever_run status asked out log answer (with_memory out_none log_none is) asks text tells ends = inr (inr is)
 
-wherever_check : {W L : Type 0} (asked : Reading) (out : Change W) (log : Change L) (answer : ℕ) → Ended asked out log answer → task_of asked.words ≡ Task.Check → (text : List ℕ) → Tells asked text → IsAccepted text
-    → IsUnlessFailed 0 answer
-wherever_check asked out log answer (with_run ran steady is most other) asks text tells accepted = absurd (one_task asked.words ran.task asks)
-wherever_check asked out log answer (with_check checked steady is) asks text tells accepted = inl is
-wherever_check asked out log answer (with_refused given read refused steady is) asks text tells accepted =
+wherever_accepted : {W L : Type 0} (task : Task) → ¬ (task ≡ Task.Run) → (asked : Reading) (out : Change W) (log : Change L) (answer : ℕ) → Ended asked out log answer → AnswersAccepted task asked answer
+wherever_accepted task apart asked out log answer (with_run ran steady is most other) asks text tells accepted = absurd (apart (sym asks ∙ ran.task))
+wherever_accepted task apart asked out log answer (with_check checked steady is) asks text tells accepted = inl is
+wherever_accepted task apart asked out log answer (with_code listed steady is) asks text tells accepted = inl is
+wherever_accepted task apart asked out log answer (with_refused given read refused steady is) asks text tells accepted =
     absurd (not_both given refused (subst IsAccepted (sym (given_is_told asked given text read tells)) accepted))
-wherever_check asked out log answer (with_words nameless steady is) asks text tells accepted = absurd (not_none (file_of asked.words) tells.file nameless tells.named)
-wherever_check asked out log answer (with_read named rose steady is) asks text tells accepted = absurd (tells.no_fault rose)
-wherever_check asked out log answer (with_write report reported cut is) asks text tells accepted = inr (inl is)
-wherever_check asked out log answer (with_memory out_none log_none is) asks text tells accepted = inr (inr is)
+wherever_accepted task apart asked out log answer (with_words nameless steady is) asks text tells accepted = absurd (not_none (file_of asked.words) tells.file nameless tells.named)
+wherever_accepted task apart asked out log answer (with_read named rose steady is) asks text tells accepted = absurd (tells.no_fault rose)
+wherever_accepted task apart asked out log answer (with_write report reported cut is) asks text tells accepted = inr (inl is)
+wherever_accepted task apart asked out log answer (with_memory out_none log_none is) asks text tells accepted = inr (inr is)
 
 pub causes_run : {W L : Type 0} (status : ℕ) → status ≤ 4 → ¬ (status ≡ 1) → ¬ (status ≡ 0) → (asked : Reading) (out : Change W) (log : Change L) (answer : ℕ) → Wrote asked out log answer → CausesOfRun status asked out log answer
 causes_run status few other some asked out log answer wrote =
@@ -232,12 +248,14 @@ causes_done asked out log answer wrote =
     record {
       only = only_done asked out log answer end;
       wherever_run = wherever_run 0 asked out log answer end;
-      wherever_check = wherever_check asked out log answer end;
+      wherever_check = wherever_accepted Task.Check check_is_no_run asked out log answer end;
+      wherever_code = wherever_accepted Task.Code code_is_no_run asked out log answer end;
     }
 
 only_refused : {W L : Type 0} (asked : Reading) (out : Change W) (log : Change L) (answer : ℕ) → Ended asked out log answer → answer ≡ 1 → (text : List ℕ) × Gave asked text × IsRefused text
 only_refused asked out log answer (with_run ran steady is most other) one = absurd (other one)
 only_refused asked out log answer (with_check checked steady is) one = absurd (omega arith)
+only_refused asked out log answer (with_code listed steady is) one = absurd (omega arith)
 only_refused asked out log answer (with_refused text read refused steady is) one = (text, read, refused)
 only_refused asked out log answer (with_words nameless steady is) one = absurd (omega arith)
 only_refused asked out log answer (with_read named rose steady is) one = absurd (omega arith)
@@ -249,6 +267,8 @@ wherever_refused asked out log answer (with_run ran steady is most other) text t
     absurd (not_both text refused (subst IsAccepted (given_is_told asked ran.text text ran.read tells) (ran.run.program, ran.run.symbols, ran.run.spelled)))
 wherever_refused asked out log answer (with_check checked steady is) text tells refused =
     absurd (not_both text refused (subst IsAccepted (given_is_told asked checked.text text checked.read tells) checked.accepted))
+wherever_refused asked out log answer (with_code listed steady is) text tells refused =
+    absurd (not_both text refused (subst IsAccepted (given_is_told asked listed.text text listed.read tells) (listed.code.program, listed.code.symbols, listed.code.spelled)))
 wherever_refused asked out log answer (with_refused given read others steady is) text tells refused = inl is
 wherever_refused asked out log answer (with_words nameless steady is) text tells refused = absurd (not_none (file_of asked.words) tells.file nameless tells.named)
 wherever_refused asked out log answer (with_read named rose steady is) text tells refused = absurd (tells.no_fault rose)
@@ -263,6 +283,7 @@ causes_refused asked out log answer wrote =
 only_words : {W L : Type 0} (asked : Reading) (out : Change W) (log : Change L) (answer : ℕ) → Ended asked out log answer → answer ≡ 5 → file_of asked.words ≡ None
 only_words asked out log answer (with_run ran steady is most other) five = absurd (omega arith)
 only_words asked out log answer (with_check checked steady is) five = absurd (omega arith)
+only_words asked out log answer (with_code listed steady is) five = absurd (omega arith)
 only_words asked out log answer (with_refused text read refused steady is) five = absurd (omega arith)
 only_words asked out log answer (with_words nameless steady is) five = nameless
 only_words asked out log answer (with_read named rose steady is) five = absurd (omega arith)
@@ -277,6 +298,7 @@ not_some (Some file) nameless some = let no : Some file ≡ None = nameless in c
 wherever_words : {W L : Type 0} (asked : Reading) (out : Change W) (log : Change L) (answer : ℕ) → Ended asked out log answer → file_of asked.words ≡ None → IsUnlessFailed 5 answer
 wherever_words asked out log answer (with_run ran steady is most other) nameless = absurd (not_none (file_of asked.words) ran.read.file nameless ran.read.named)
 wherever_words asked out log answer (with_check checked steady is) nameless = absurd (not_none (file_of asked.words) checked.read.file nameless checked.read.named)
+wherever_words asked out log answer (with_code listed steady is) nameless = absurd (not_none (file_of asked.words) listed.read.file nameless listed.read.named)
 wherever_words asked out log answer (with_refused text read refused steady is) nameless = absurd (not_none (file_of asked.words) read.file nameless read.named)
 wherever_words asked out log answer (with_words same steady is) nameless = inl is
 wherever_words asked out log answer (with_read named rose steady is) nameless = absurd (not_some (file_of asked.words) nameless named)
@@ -291,6 +313,7 @@ causes_words asked out log answer wrote =
 only_read : {W L : Type 0} (asked : Reading) (out : Change W) (log : Change L) (answer : ℕ) → Ended asked out log answer → answer ≡ 6 → IsSome (file_of asked.words) × Rose asked.before asked.now
 only_read asked out log answer (with_run ran steady is most other) six = absurd (omega arith)
 only_read asked out log answer (with_check checked steady is) six = absurd (omega arith)
+only_read asked out log answer (with_code listed steady is) six = absurd (omega arith)
 only_read asked out log answer (with_refused text read refused steady is) six = absurd (omega arith)
 only_read asked out log answer (with_words nameless steady is) six = absurd (omega arith)
 only_read asked out log answer (with_read named rose steady is) six = (named, rose)
@@ -300,6 +323,7 @@ only_read asked out log answer (with_memory out_none log_none is) six = absurd (
 wherever_read : {W L : Type 0} (asked : Reading) (out : Change W) (log : Change L) (answer : ℕ) → Ended asked out log answer → (file_of asked.words ≡ None → asked.now ≡ asked.before) → ¬ (asked.now ≡ asked.before) → IsUnlessFailed 6 answer
 wherever_read asked out log answer (with_run ran steady is most other) unread moved = absurd (moved ran.read.gave.steady)
 wherever_read asked out log answer (with_check checked steady is) unread moved = absurd (moved checked.read.gave.steady)
+wherever_read asked out log answer (with_code listed steady is) unread moved = absurd (moved listed.read.gave.steady)
 wherever_read asked out log answer (with_refused text read refused steady is) unread moved = absurd (moved read.gave.steady)
 wherever_read asked out log answer (with_words nameless steady is) unread moved = absurd (moved (unread nameless))
 wherever_read asked out log answer (with_read named rose steady is) unread moved = inl is
@@ -315,6 +339,7 @@ only_write : {W L : Type 0} (asked : Reading) (out : Change W) (log : Change L) 
     → (report : Report) × Reported asked report × IsCutShort report out log
 only_write asked out log answer (with_run ran steady is most other) seven = absurd (omega arith)
 only_write asked out log answer (with_check checked steady is) seven = absurd (omega arith)
+only_write asked out log answer (with_code listed steady is) seven = absurd (omega arith)
 only_write asked out log answer (with_refused text read refused steady is) seven = absurd (omega arith)
 only_write asked out log answer (with_words nameless steady is) seven = absurd (omega arith)
 only_write asked out log answer (with_read named rose steady is) seven = absurd (omega arith)
@@ -324,6 +349,7 @@ only_write asked out log answer (with_memory out_none log_none is) seven = absur
 wherever_write : {W L : Type 0} (asked : Reading) (out : Change W) (log : Change L) (answer : ℕ) → Ended asked out log answer → ¬ (Steady out log) → answer ≡ 7
 wherever_write asked out log answer (with_run ran steady is most other) moved = absurd (moved steady)
 wherever_write asked out log answer (with_check checked steady is) moved = absurd (moved steady)
+wherever_write asked out log answer (with_code listed steady is) moved = absurd (moved steady)
 wherever_write asked out log answer (with_refused text read refused steady is) moved = absurd (moved steady)
 wherever_write asked out log answer (with_words nameless steady is) moved = absurd (moved steady)
 wherever_write asked out log answer (with_read named rose steady is) moved = absurd (moved steady)
@@ -334,6 +360,7 @@ wherever_write asked out log answer (with_memory out_none log_none is) moved =
 only_memory : {W L : Type 0} (asked : Reading) (out : Change W) (log : Change L) (answer : ℕ) → Ended asked out log answer → CausesOfMemory out log answer
 only_memory asked out log answer (with_run ran steady is most other) = λ eight. absurd (omega arith)
 only_memory asked out log answer (with_check checked steady is) = λ eight. absurd (omega arith)
+only_memory asked out log answer (with_code listed steady is) = λ eight. absurd (omega arith)
 only_memory asked out log answer (with_refused text read refused steady is) = λ eight. absurd (omega arith)
 only_memory asked out log answer (with_words nameless steady is) = λ eight. absurd (omega arith)
 only_memory asked out log answer (with_read named rose steady is) = λ eight. absurd (omega arith)
@@ -378,6 +405,7 @@ complete asked out log answer (inr wrote) =
 not_seven_kind : (asked : Reading) (report : Report) → Kind asked report → ¬ (report.status ≡ 7)
 not_seven_kind asked report (of_words nameless is) = λ seven. absurd (let same : report.status ≡ 5 = ap (λ (x : Report). x.status) is in omega arith)
 not_seven_kind asked report (of_check text read asks check) = λ seven. absurd (let same : report.status ≡ 0 = ap (λ (x : Report). x.status) check.is in omega arith)
+not_seven_kind asked report (of_code text read asks code) = λ seven. absurd (let same : report.status ≡ 0 = code.listed.status_is in omega arith)
 not_seven_kind asked report (of_run text read asks run) = λ seven. absurd (let most : report.status ≤ 4 = (run-status text report run).most in omega arith)
 not_seven_kind asked report (of_refusal text read refusal) = λ seven. absurd (let same : report.status ≡ 1 = ap (λ (x : Report). x.status) refusal.is in omega arith)
 not_seven_kind asked report (of_fault named rose is) = λ seven. absurd (let same : report.status ≡ 6 = ap (λ (x : Report). x.status) is in omega arith)

@@ -19,6 +19,9 @@ no_file = refl
 asks_check : task_of (codes "check" ∷ codes "f" ∷ []) ≡ Task.Check
 asks_check = refl
 
+asks_code : task_of (codes "code" ∷ codes "f" ∷ []) ≡ Task.Code
+asks_code = refl
+
 asks_run : task_of (codes "run" ∷ codes "check" ∷ []) ≡ Task.Run
 asks_run = refl
 

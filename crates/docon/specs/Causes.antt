@@ -8,7 +8,7 @@ use Rattle.dc_front.specs.Form.{Spells, IsFirstRefusal}
 use Rattle.dc_outer.specs.Causes.{Rose}
 use Rattle.docon.specs.declared.command.Task.{Task}
 use Rattle.docon.specs.declared.report.Report.{Report}
-use Rattle.docon.specs.Report.{Reading, contents, file_of, task_of, read_limit, run_of, status_of, accepted_report, RunReport, IsReport, HasOutcome, Reported}
+use Rattle.docon.specs.Report.{Reading, contents, file_of, task_of, read_limit, run_of, status_of, accepted_report, RunReport, CodeReport, IsReport, HasOutcome, Reported}
 use Rattle.docon.specs.Room.{Fits}
 use Rattle.docon.specs.Writing.{Change, Took, FailedIn, Untouched, WroteAll, GaveUp}
 
@@ -76,6 +76,17 @@ pub record Checked {W L : Type 0} (asked : Reading) (out : Change W) (log : Chan
   pub out_all : Took out accepted_report.out
   pub log_all : Took log accepted_report.log
 
+-- The words ask for the code, and an accepted source was read. The report of its code was written whole: the listing to
+-- out.
+pub record Listed {W L : Type 0} (asked : Reading) (out : Change W) (log : Change L) : Type 0 where
+  pub task : task_of asked.words ≡ Task.Code
+  pub text : List ℕ
+  pub read : Gave asked text
+  pub report : Report
+  pub code : CodeReport text report
+  pub out_all : Took out report.out
+  pub log_all : Took log report.log
+
 -- The source spells a program whose run has this status.
 pub record EndsWithStatus (status : ℕ) (text : List ℕ) : Type 0 where
   pub program : Program
@@ -88,13 +99,18 @@ abbrev pub AnswersRun : ℕ → Reading → ℕ → Type 0
 AnswersRun status asked answer =
     task_of asked.words ≡ Task.Run → (text : List ℕ) → Tells asked text → EndsWithStatus status text → IsUnlessFailed status answer
 
+-- Where the words ask for this and the files tell an accepted source, 0 is answered.
+abbrev pub AnswersAccepted : Task → Reading → ℕ → Type 0
+AnswersAccepted task asked answer = task_of asked.words ≡ task → (text : List ℕ) → Tells asked text → IsAccepted text → IsUnlessFailed 0 answer
+
 -- Answer 0: only where the words ask for a run, and a source was read whose run has this status, or where they
--- ask for a check, and an accepted source was read; and the report was written whole. And wherever the files tell
--- such a source.
+-- ask for a check or for the code, and an accepted source was read; and the report was written whole. And wherever
+-- the files tell such a source.
 pub record CausesOfDone {W L : Type 0} (asked : Reading) (out : Change W) (log : Change L) (answer : ℕ) : Type 0 where
-  pub only : answer ≡ 0 → RanWith 0 asked out log ⊎ Checked asked out log
+  pub only : answer ≡ 0 → RanWith 0 asked out log ⊎ (Checked asked out log ⊎ Listed asked out log)
   pub wherever_run : AnswersRun 0 asked answer
-  pub wherever_check : task_of asked.words ≡ Task.Check → (text : List ℕ) → Tells asked text → IsAccepted text → IsUnlessFailed 0 answer
+  pub wherever_check : AnswersAccepted Task.Check asked answer
+  pub wherever_code : AnswersAccepted Task.Code asked answer
 
 -- Answers 2, 3 and 4: only where the words ask for a run, a source was read whose run has this status, and its
 -- report was written whole; and wherever the files tell such a source.
@@ -138,9 +154,9 @@ pub record CausesOfWrite {W L : Type 0} (asked : Reading) (out : Change W) (log 
 abbrev pub CausesOfMemory : {W L : Type 0} → Change W → Change L → ℕ → Type 0
 CausesOfMemory out log answer = answer ≡ 8 → Untouched out × Untouched log
 
--- Where each answer comes: 0 where the run came to its end or the check did, 2 for a race, 3 for a fault, 4 for a spent limit, 1 where
--- the source is refused, 5 where the words are no command, 6 and 7 where a reading or a write failed, and 8 where memory was
--- wanting. There is no other.
+-- Where each answer comes: 0 where the run came to its end, or an accepted source was checked or its code listed, 2 for
+-- a race, 3 for a fault, 4 for a spent limit, 1 where the source is refused, 5 where the words are no command, 6 and 7
+-- where a reading or a write failed, and 8 where memory was wanting. There is no other.
 pub record Causes {W L : Type 0} (asked : Reading) (out : Change W) (log : Change L) (answer : ℕ) : Type 0 where
   pub done : CausesOfDone asked out log answer
   pub raced : CausesOfRun 2 asked out log answer

@@ -3,6 +3,7 @@
 use Rattle.std.specs.Prelude.{◌≡◌, ◌≤◌, ℕ, Bool, false, not, ◌&&◌, ◌||◌, ◌==◌, List, [], ◌∷◌, ◌++◌, length, take, codes, decimal, Option, Some, None, MatchOption, IfSome, if◌then◌else◌, ◌⊎◌}
 use Rattle.std.specs.Str.{bytes_eq, is_utf8}
 use Rattle.dc_int.specs.declared.fault.Why.{Why}
+use Rattle.dc_code.specs.Codes.{CodeLists}
 use Rattle.dc_code.specs.Inner.{judging}
 use Rattle.dc_code.specs.Troubles.{Trouble, ended, masked, raced}
 use Rattle.dc_code.specs.Verdicts.{trouble_in}
@@ -11,6 +12,8 @@ use Rattle.dc_tree.specs.declared.program.Program.{Program}
 use Rattle.dc_tree.specs.declared.symbols.Symbol.{Symbol}
 use Rattle.dc_tree.specs.Blocks.{Source, source_of}
 use Rattle.dc_front.specs.Form.{Spells, IsFirstRefusal}
+use Rattle.dc_listing.specs.Listing.{listing}
+use Rattle.dc_lower.specs.CodeOf.{IsCodeOf}
 use Rattle.dc_outer.specs.Causes.{Rose}
 use Rattle.dc_run.specs.Playing as playing
 use Rattle.dc_run.specs.ReportLine.{Ending, done, bad, stopped, outside_names, report_line}
@@ -32,16 +35,17 @@ is_option (c ∷ []) = false
 is_option (c ∷ d ∷ rest) = c == 45
 
 abbrev pub is_command : List ℕ → Bool
-is_command word = bytes_eq word (codes "run") || bytes_eq word (codes "check")
+is_command word = bytes_eq word (codes "run") || bytes_eq word (codes "check") || bytes_eq word (codes "code")
 
--- the words are `run` or `check` and a word of UTF-8 that is no option
+-- the words are `run`, `check` or `code` and a word of UTF-8 that is no option
 unfoldable pub names_file : List ℕ → List ℕ → Bool
 names_file command file = is_command command && is_utf8 file && not (is_option file)
 
 -- What words that name a file ask for.
 abbrev pub task_of : List (List ℕ) → Task
 task_of [] = Task.Run
-task_of (command ∷ rest) = if bytes_eq command (codes "check") then Task.Check else Task.Run
+task_of (command ∷ rest) =
+    if bytes_eq command (codes "check") then Task.Check else (if bytes_eq command (codes "code") then Task.Code else Task.Run)
 
 -- The file that the words name.
 abbrev pub file_of : List (List ℕ) → Option (List ℕ)
@@ -115,6 +119,21 @@ pub record CheckReport (text : List ℕ) (report : Report) : Type 0 where
   pub spelled : Spells text program symbols
   pub is : report ≡ accepted_report
 
+-- The report of the code of a program: its listing. A listing determines its code, which does what the program means.
+pub record IsCodeReport (symbols : List Symbol) (source : Source) (report : Report) : Type 0 where
+  pub code : CodeLists
+  pub means : IsCodeOf symbols source code
+  pub out_is : report.out ≡ listing code
+  pub log_is : report.log ≡ []
+  pub status_is : report.status ≡ 0
+
+-- The source is accepted: some program is spelled by it, and the report is that of its code.
+pub record CodeReport (text : List ℕ) (report : Report) : Type 0 where
+  pub program : Program
+  pub symbols : List Symbol
+  pub spelled : Spells text program symbols
+  pub listed : IsCodeReport symbols (source_of program) report
+
 -- The source is refused: the log has its first refusal, the line and the rule.
 pub record RefusalReport (text : List ℕ) (report : Report) : Type 0 where
   pub refusal : Refusal
@@ -124,8 +143,9 @@ pub record RefusalReport (text : List ℕ) (report : Report) : Type 0 where
 abbrev pub IsTaskReport : Task → List ℕ → Report → Type 0
 IsTaskReport Task.Run text report = RunReport text report
 IsTaskReport Task.Check text report = CheckReport text report
+IsTaskReport Task.Code text report = CodeReport text report
 
--- The report of a source: of its run or its check, and where it is refused of that.
+-- The report of a source: of its run, its check or its code, and where it is refused of that.
 abbrev pub IsSourceReport : Task → List ℕ → Report → Type 0
 IsSourceReport task text report = IsTaskReport task text report ⊎ RefusalReport text report
 

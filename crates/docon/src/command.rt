@@ -7,11 +7,13 @@ ghost use Rattle.docon.specs.Report.{file_of, is_option, is_command, names_file,
 
 use dc_text::DcText;
 
-/// What is done with a source: its program is run, or it is only told that the source is accepted.
+/// What is done with a source: its program is run, or it is only told that the source is accepted, or
+/// the program's code is listed.
 #[derive(Clone, Copy, Debug, PartialEq, Eq)]
 pub(crate) enum Task {
     Run,
     Check,
+    Code,
 }
 
 fn is_option(word: &[u8]) -> bool
@@ -29,7 +31,7 @@ fn is_text(word: &[u8]) -> bool
 fn is_command(word: &[u8]) -> bool
     ensures { result ≡ is_command word.now }
 {
-    word == b"run".as_slice() || word == b"check".as_slice()
+    word == b"run".as_slice() || word == b"check".as_slice() || word == b"code".as_slice()
 }
 
 #[tactic(auto, unfolding(crate::specs::Report::names_file))]
@@ -59,6 +61,7 @@ pub(crate) fn task_of(words: &[DcText]) -> Task
 {
     match words {
         [command, ..] if command.as_bytes() == b"check".as_slice() => Task::Check,
+        [command, ..] if command.as_bytes() == b"code".as_slice() => Task::Code,
         _ => Task::Run,
     }
 }

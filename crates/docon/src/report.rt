@@ -2,11 +2,20 @@
 
 ghost use Rattle.std.specs.Prelude.{◌≡◌, IfOk};
 ghost use Rattle.dc_tree.specs.Blocks.{source_of};
-ghost use Rattle.docon.specs.Report.{only_log, refusal_words, accepted_report, IsRunReport, IsSourceReport};
+ghost use Rattle.docon.specs.Report.{
+  only_log,
+  refusal_words,
+  accepted_report,
+  IsRunReport,
+  IsCodeReport,
+  IsSourceReport,
+};
 
 use crate::command::Task;
 use crate::statuses::{DONE, REFUSED, status_of};
 use dc_front::{Accepted, accept};
+use dc_listing::listing;
+use dc_lower::lower;
 use dc_outer::Gate;
 use dc_run::{report_line, run};
 use dc_text::{DcText, NoMemory};
@@ -79,7 +88,22 @@ fn accepted_report(alloc: Global) -> Result<Report, NoMemory>
     })
 }
 
-/// The report of a source, of its run or of its check.
+/// The report of an accepted source whose code is listed.
+fn code_report(alloc: Global, accepted: &Accepted) -> Result<Report, NoMemory>
+    ensures { IfOk result (IsCodeReport (accepted.now).symbols (source_of (accepted.now).program)) }
+{
+    let symbols = accepted.symbols();
+    // The slice is taken for what it says of the names: each value that is declared is of its sort.
+    let _sound = symbols.as_slice();
+    let code = lower(alloc, accepted.program(), symbols)?;
+    Ok(Report {
+        out: listing(alloc, &code)?,
+        log: DcText::new(alloc),
+        status: DONE,
+    })
+}
+
+/// The report of a source: of its run, of its check or of its code.
 pub(crate) fn source_report<G: Gate + Sync>(
     alloc: Global,
     task: Task,
@@ -92,6 +116,7 @@ pub(crate) fn source_report<G: Gate + Sync>(
         Ok(accepted) => match task {
             Task::Run => run_report(alloc, &accepted, gate),
             Task::Check => accepted_report(alloc),
+            Task::Code => code_report(alloc, &accepted),
         },
         Err(Fail::Refused(rule)) => refusal(alloc, rule),
         Err(Fail::NoMemory) => Err(NoMemory),

@@ -36,8 +36,8 @@ fn report<F: Files, G: Gate + Sync>(
 }
 
 /// Runs the command that the words of a command line name, without the program's own name, and
-/// answers the status of the process. The command `run` runs the program of a file, and `check` only
-/// tells whether the file's source is accepted, by the same rules.
+/// answers the status of the process. The command `run` runs the program of a file. `check` only tells
+/// whether the file's source is accepted, by the same rules, and `code` lists the code of its program.
 ///
 /// **For every accepted source that is run, whatever the input and whatever the gate does, what is
 /// written is the report of its run. Each loop that the run reaches ends with the one store that
@@ -48,7 +48,8 @@ fn report<F: Files, G: Gate + Sync>(
 /// and is reported as it comes.
 ///
 /// This is `Reports`, in `specs/Headline.antt` of dc_run, which the field `report` of `Answers` says of
-/// the source that was read, unless a write failed or memory was wanting. The field `causes` says where
+/// the source that was read, unless a write failed or memory was wanting. A listing is that of a code
+/// that does what the program means (`IsCodeOf`, of dc_lower). The field `causes` says where
 /// each status comes, and `complete` that all was written where nothing failed. The clause `unchanged`
 /// says what stays as it was. Statuses and the lines of the log are listed in `docs/REPORTS.md`.
 ///

@@ -86,6 +86,55 @@ fn checks(rt: HostRuntime) -> Result<(), Fail> {
     Ok(())
 }
 
+/// The code of the seven lines with the size 4 and the value `i*i`.
+const LISTING: &str = "0 3 Enter 0
+1 6 PutAll 0
+2 6 PutEnd
+3 7 End
+4 3 Const 4 1
+5 3 Wrap 4
+6 3 Const 4 4
+7 3 Wrap 4
+8 3 Const 4 1
+9 3 End
+10 4 SubscriptSlot 0
+11 4 LoadSlot 0
+12 4 SubscriptSlot 0
+13 4 LoadSlot 0
+14 4 Arith Mul 4
+15 4 SubscriptSlot 0
+16 4 LoadSlot 0
+17 4 Subscript 0
+18 4 Store 0
+19 3 End
+shape 0 4 F 4
+shape 1 4 F 1
+bounds 0 1 1 4
+bounds 1 0
+plan 0 0 0
+plan 1 0 0
+plan 2 0 1 4 F 0
+construct 0 3 1 1 4 4 - 10 2 Plain Plain
+";
+
+/// What `code` tells: nothing is run, and a source is refused as for `run`.
+#[test]
+fn listings(rt: HostRuntime) -> Result<(), Fail> {
+    let table = [
+        ("4", "i*i", LISTING, "", 0),
+        ("4", "j", "", "refused: line 4: K20\n", 1),
+        ("4194304", "i/2", "", "refused: line 2: K24\n", 1),
+    ];
+    for (size, value, out, log, status) in table {
+        let source = form(rt.alloc(), size, value)?;
+        let answer = call(rt.alloc(), source.as_bytes(), &["code", "s.f90"], &WELL)?;
+        assert_eq!(rt; answer.out.as_bytes(), out.as_bytes(), "of {value}");
+        assert_eq!(rt; answer.log.as_bytes(), log.as_bytes(), "of {value}");
+        assert_eq!(rt; answer.status, status, "of {value}");
+    }
+    Ok(())
+}
+
 /// Texts in the free source form, each with what stands on out and on the log.
 #[test]
 fn free_form(rt: HostRuntime) -> Result<(), Fail> {
@@ -143,15 +192,17 @@ fn operands(rt: HostRuntime) -> Result<(), Fail> {
 
 #[test]
 fn words_and_files(rt: HostRuntime) -> Result<(), Fail> {
-    let table: [(&[&str], &str, u8); 9] = [
+    let table: [(&[&str], &str, u8); 11] = [
         (&["run"], "words: command\n", 5),
         (&[], "words: command\n", 5),
         (&["ruin", "s.f90"], "words: command\n", 5),
         (&["run", "s.f90", "s.f90"], "words: command\n", 5),
         (&["run", "--fast"], "words: command\n", 5),
         (&["check"], "words: command\n", 5),
+        (&["code"], "words: command\n", 5),
         (&["run", "t.f90"], "read: file\n", 6),
         (&["check", "t.f90"], "read: file\n", 6),
+        (&["code", "t.f90"], "read: file\n", 6),
         (&["run", ""], "read: file\n", 6),
     ];
     let source = form(rt.alloc(), "4", "i*i")?;

@@ -1,4 +1,4 @@
 use Rattle.dc_meaning.proofs.visits.visit.Given as goal
 
-abbrev pub ghost-visit_index : goal.ghost-visit_index
-ghost-visit_index g a = g.parts
+abbrev pub ghost-visit_between : goal.ghost-visit_between
+ghost-visit_between g a = g.parts

@@ -6,7 +6,7 @@ use Rattle.dc_code.specs.declared.frame.Place.{Place}
 use Rattle.dc_meaning.specs.Acts.{refer_to}
 use Rattle.dc_meaning.specs.Gathering.{gathered, places_from}
 use Rattle.dc_meaning.proofs.Walking.{handed, stays-as}
-use Rattle.dc_meaning.proofs.Gathering.{gathered-on, gathered-bad, gathered-none, as-they-are, count-step}
+use Rattle.dc_meaning.proofs.Gathering.{gathered-on, gathered-bad, gathered-none, count-step}
 use Rattle.dc_meaning.proofs.wholes.read_elements.Goals as goal
 
 pub loop-position-init : goal.loop-position-init
@@ -20,7 +20,7 @@ returns-in_err-read c = λ own.
     handed c.from_residual.result _ c.from_residual.ensures.1
     (c.loop-position.invariant own _ _
     (stays-as (λ call. ap (λ n. gathered (refer_to c.args.line) c.loop-position.values (places_from c.args.variable n at)) (count-step c.args.count at c.loop-position-test.true))
-    (gathered-bad as-they-are (λ call. refer_to c.args.line) c.loop-position.values (Place.Outer (record { variable = c.args.variable; position = at })) (places_from c.args.variable (c.args.count - (at + 1)) (at + 1))
+    (gathered-bad (λ call. refer_to c.args.line) c.loop-position.values (Place.Outer (record { variable = c.args.variable; position = at })) (places_from c.args.variable (c.args.count - (at + 1)) (at + 1))
     (c.in_err-read.ensures own))))
 
 pub loop-position-preserved : goal.loop-position-preserved
@@ -29,7 +29,7 @@ loop-position-preserved c = λ own after r walks.
     let told = to_z-of_z w64 c.in_ok-read.field-0 (search rules) in
     c.loop-position.invariant own after r
     (stays-as (λ call. ap (λ n. gathered (refer_to c.args.line) c.loop-position.values (places_from c.args.variable n at)) (count-step c.args.count at c.loop-position-test.true))
-    (gathered-on as-they-are (λ call. refer_to c.args.line) c.loop-position.values _ (Place.Outer (record { variable = c.args.variable; position = at })) (places_from c.args.variable (c.args.count - (at + 1)) (at + 1)) c.in_ok-read.field-0
+    (gathered-on (λ call. refer_to c.args.line) c.loop-position.values _ (Place.Outer (record { variable = c.args.variable; position = at })) (places_from c.args.variable (c.args.count - (at + 1)) (at + 1)) c.in_ok-read.field-0
     (c.in_ok-push.ensures.ok ∙ ap (λ (z : ℤ). c.loop-position.values ++ z ∷ []) told) (c.in_ok-read.ensures own) walks))
 
 pub returns : goal.returns
@@ -37,4 +37,4 @@ returns c = λ own.
     let none : c.args.count - c.loop-position.position ≡ 0 = omega (arith, c.loop-position-test.false) in
     c.loop-position.invariant own _ _
     (stays-as (λ call. ap (λ n. gathered (refer_to c.args.line) c.loop-position.values (places_from c.args.variable n c.loop-position.position)) none)
-    (gathered-none as-they-are (λ call. refer_to c.args.line) c.loop-position.values))
+    (gathered-none (λ call. refer_to c.args.line) c.loop-position.values))

@@ -9,5 +9,5 @@ use Rattle.dc_run.proofs.whole.report_line.Goals as goal
 pub ending_line-requires : goal.ending_line-requires
 ending_line-requires c =
     let symbols = c.args.accepted.now.symbols in
-    let built = built-source symbols (source_of c.args.accepted.now.program) c.symbols.ensures.built in
+    let built = built-source symbols (source_of c.args.accepted.now.program) c.symbols.ensures.runnable.built in
     subst (λ (symbols : List Symbol). NamesThere symbols c.args.ending.now) (sym c.symbols.ensures.value) (names-there symbols built.names c.args.ending.now c.requires)

@@ -6,6 +6,6 @@ use Rattle.judge_rows.proofs.plain_judge.iteration.Goals as goal
 pub alone-requires : goal.alone-requires
 alone-requires c =
     record {
-      form = (λ i. is_built (c.symbols-symbols.ensures.value i) (source_of (c.program-program.ensures.value i))) ∙ c.symbols-symbols.ensures.built;
+      form = (λ i. is_built (c.symbols-symbols.ensures.value i) (source_of (c.program-program.ensures.value i))) ∙ c.symbols-symbols.ensures.runnable.built;
       one = refl;
     }

@@ -1,4 +1,0 @@
-use Rattle.dc_play.proofs.running.advance.Given as goal
-
-abbrev pub ghost-attend : goal.ghost-attend
-ghost-attend g a = g.forms

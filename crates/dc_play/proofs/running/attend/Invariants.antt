@@ -1,4 +1,0 @@
-use Rattle.dc_play.proofs.running.attend.Given as goal
-
-abbrev pub ghost-enter : goal.ghost-enter
-ghost-enter g a = g.forms

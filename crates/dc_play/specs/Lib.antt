@@ -1,4 +1,0 @@
-pub mod LoopPlaces
-pub mod Resuming
-pub mod Tasks
-pub mod Variables
