@@ -71,7 +71,7 @@ target_of what = None
 
 -- Only Back goes to an earlier place.
 abbrev pub is_in_direction : What → ℕ → ℕ → Bool
-is_in_direction (What.Back t) at target = nat_le target at
+is_in_direction (What.Back t) at target = nat_lt target at
 is_in_direction what at target = nat_lt at target
 
 abbrev pub is_load_result : What → Bool

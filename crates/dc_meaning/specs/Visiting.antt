@@ -11,7 +11,7 @@ use Rattle.dc_code.specs.Inner.{judging, nested_loop, greatest_depth}
 use Rattle.dc_code.specs.Loops.{Loop, HeaderResult, header_of, are_too_many}
 use Rattle.dc_code.specs.Troubles.{Event, Failure, Trouble, ended, in_statement}
 use Rattle.dc_code.specs.Verdicts.{Verdict, go_on, seen, judged_by}
-use Rattle.dc_code.specs.Visits.{Visited, visited}
+use Rattle.dc_code.specs.Visits.{Visited}
 use Rattle.dc_tree.specs.declared.symbols.Symbol.{Symbol}
 use Rattle.dc_tree.specs.Blocks.{Items, Source}
 use Rattle.dc_tree.specs.BuiltPrograms.{are_built_symbols, is_built_loop}
@@ -77,11 +77,7 @@ abbrev pub visit_of : Verdict → Store → ℕ → Visited
 visit_of go_on store turns = record { verdict = go_on; store = store; turns = turns }
 visit_of verdict store turns = record { verdict = verdict; store = store; turns = 0 }
 
--- What is said of the loop, and the store behind it: the closing store where it goes on, and the same store
--- where it doesn't.
-pub record IsVisit (parts : Loop) (before after : Store) (said : answers.Verdict) : Type 0 where
-  pub is : (turns : ℕ) → visited judging parts turns before ≡ visit_of (seen said) after turns
-
--- The same of the iterations that a header comes to with these limits.
+-- What is said of the iterations that a header comes to with these limits, and the store behind the loop: the
+-- closing store where it goes on, and the same store where it doesn't.
 pub record IsVisitBetween (parts : Loop) (line : ℕ) (span : Span) (before after : Store) (said : answers.Verdict) : Type 0 where
   pub is : (turns : ℕ) → judged_by parts before (opened line span turns) ≡ visit_of (seen said) after turns

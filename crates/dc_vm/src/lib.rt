@@ -7,8 +7,6 @@ mod jumps;
 mod next;
 mod running;
 mod stepping;
-#[cfg(test)]
-mod tests;
 mod work;
 
 pub use dc_steps::{Ended, Frame};
