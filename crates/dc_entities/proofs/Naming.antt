@@ -7,7 +7,7 @@ use Rattle.dc_int.specs.Sorts.{whole}
 use Rattle.dc_int.specs.declared.kind.Kind.{Kind}
 use Rattle.dc_tree.specs.declared.symbols.Role as roles
 use Rattle.dc_tree.specs.declared.symbols.Symbol.{Symbol}
-use Rattle.dc_tree.specs.BuiltPrograms.{is_built_role, is_built_symbol, role_elements, elements_of_all, are_built_symbols, greatest_names, greatest_elements}
+use Rattle.dc_form.specs.BuiltPrograms.{is_built_role, is_built_symbol, role_elements, elements_of_all, are_built_symbols, greatest_names, greatest_elements}
 use Rattle.dc_tree.specs.Entities.{Entity, slots, nothing, entity, entity_in, outer_names, symbols_in, main_scope, is_variable}
 use Rattle.dc_tree.specs.Places.{place_at}
 use Rattle.dc_tree.specs.Statements.{Name}

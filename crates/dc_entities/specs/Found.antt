@@ -5,7 +5,7 @@ use Rattle.dc_int.specs.Store.{Bounds}
 use Rattle.dc_sorts.specs.declared.standing.Standing as code
 use Rattle.dc_sorts.specs.Forms.{sort_of_form}
 use Rattle.dc_tree.specs.declared.symbols.Role as roles
-use Rattle.dc_tree.specs.BuiltPrograms.{are_built_symbols}
+use Rattle.dc_form.specs.BuiltPrograms.{are_built_symbols}
 use Rattle.dc_tree.specs.Entities.{Entity, outside, slots, constant, nothing}
 use Rattle.dc_entities.specs.declared.found.Found.{Found}
 use Rattle.dc_entities.specs.Numbering.{numbers_of}

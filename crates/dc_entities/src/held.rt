@@ -1,7 +1,7 @@
 //! Numbers by their digits.
 
 ghost use Rattle.std.specs.Prelude.{◌≡◌, nat_le, pos, IsTrue};
-ghost use Rattle.dc_tree.specs.BuiltPrograms.{greatest_number};
+ghost use Rattle.dc_form.specs.BuiltPrograms.{greatest_number};
 ghost use Rattle.dc_tree.specs.Literals.{number_of};
 
 use dc_sorts::capped_number;

@@ -2,7 +2,7 @@
 
 ghost use Rattle.std.specs.Prelude.{◌≡◌, ◌≤◌, length, IsTrue};
 ghost use Rattle.dc_int.specs.Store.{elements_in};
-ghost use Rattle.dc_tree.specs.BuiltPrograms.{is_built_role, role_elements, are_built_symbols};
+ghost use Rattle.dc_form.specs.BuiltPrograms.{is_built_role, role_elements, are_built_symbols};
 ghost use Rattle.dc_tree.specs.Entities.{entity, main_scope};
 ghost use Rattle.dc_sorts.specs.Standing.{standing_of, index_kind, scope_at};
 ghost use Rattle.dc_entities.specs.Found.{entity_of, bounds_found, entity_at, IsNamed};

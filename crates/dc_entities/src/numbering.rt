@@ -1,7 +1,7 @@
 //! The numbers of the variables.
 
 ghost use Rattle.std.specs.Prelude.{◌≡◌, IfOk, IsTrue, slice_get};
-ghost use Rattle.dc_tree.specs.BuiltPrograms.{are_built_symbols};
+ghost use Rattle.dc_form.specs.BuiltPrograms.{are_built_symbols};
 ghost use Rattle.dc_tree.specs.Entities.{is_variable};
 ghost use Rattle.dc_entities.specs.Numbering.{numbers_of};
 

@@ -10,7 +10,7 @@ use Rattle.dc_tree.specs.declared.token.Mark.{Mark}
 use Rattle.dc_tree.specs.declared.token.Suffix.{Suffix}
 use Rattle.dc_tree.specs.Blocks as blocks
 use Rattle.dc_tree.specs.Blocks.{Line, Item, Items, Source, plain, none, and_then}
-use Rattle.dc_tree.specs.BuiltPrograms.{is_built, are_built_symbols, is_held}
+use Rattle.dc_form.specs.BuiltPrograms.{is_built, are_built_symbols, is_held}
 use Rattle.dc_tree.specs.Statements.{Name, Ranging, Target, Statement, logical, program_line, end_line, end_do, concurrent, continue, act, assign, fill, print, read}
 use Rattle.dc_tree.specs.Syntax.{Tree, number, name, refer, binary, no_args, arg}
 use Rattle.dc_form.specs.Capped.{capped}

@@ -2,7 +2,7 @@
 use Rattle.std.proofs.Common.{◌≡◌, ◌&&◌, List, [], ◌∷◌, Option, None, refl}
 use Rattle.dc_tree.specs.declared.stmt.Local.{Local}
 use Rattle.dc_tree.specs.Blocks.{Item, Items, plain, branch, select, loop, and_then}
-use Rattle.dc_tree.specs.BuiltPrograms.{is_built_block, is_built_loop}
+use Rattle.dc_form.specs.BuiltPrograms.{is_built_block, is_built_loop}
 use Rattle.dc_tree.specs.Entities.{Scope}
 use Rattle.dc_tree.specs.Statements.{Name, Ranging, concurrent}
 use Rattle.dc_form.specs.Parts.{is_built_inner, is_plain_loop}

@@ -8,7 +8,7 @@ use Rattle.dc_int.specs.Sorts.{sort_with}
 use Rattle.dc_int.specs.Store.{Bounds}
 use Rattle.dc_tree.specs.declared.symbols.Role as roles
 use Rattle.dc_tree.specs.declared.symbols.Symbol.{Symbol}
-use Rattle.dc_tree.specs.BuiltPrograms.{is_whole_scalar, is_built_role, is_built_symbol, are_built_symbols, elements_of_all}
+use Rattle.dc_form.specs.BuiltPrograms.{is_whole_scalar, is_built_role, is_built_symbol, are_built_symbols, elements_of_all}
 use Rattle.dc_tree.specs.Entities.{Entity, outside, constant, entity, entity_in, outer_names, symbols_in, main_scope}
 use Rattle.dc_tree.specs.Statements.{Name}
 use Rattle.dc_tree.specs.Symbols.{symbol_at}

@@ -1,2 +1,3 @@
+pub mod BuiltPrograms
 pub mod Capped
 pub mod Parts

@@ -4,7 +4,7 @@ use Rattle.dc_tree.specs.declared.stmt.Local.{Local}
 use Rattle.dc_tree.specs.declared.symbols.Role as roles
 use Rattle.dc_tree.specs.declared.symbols.Symbol.{Symbol}
 use Rattle.dc_tree.specs.Blocks.{Item, Items, plain}
-use Rattle.dc_tree.specs.BuiltPrograms.{is_built_inside, is_built_index, is_built_block, all_spare}
+use Rattle.dc_form.specs.BuiltPrograms.{is_built_inside, is_built_index, is_built_block, all_spare}
 use Rattle.dc_tree.specs.Entities.{Scope}
 use Rattle.dc_tree.specs.Statements.{Ranging}
 

@@ -2,7 +2,7 @@
 
 ghost use Rattle.std.specs.Prelude.{◌≡◌, map, IsTrue};
 ghost use Rattle.dc_tree.specs.Blocks.{item, items, items_from};
-ghost use Rattle.dc_tree.specs.BuiltPrograms.{are_built_symbols, is_built_limit, is_built_index, is_built_block, all_spare, is_built_loop};
+ghost use Rattle.dc_form.specs.BuiltPrograms.{are_built_symbols, is_built_limit, is_built_index, is_built_block, all_spare, is_built_loop};
 ghost use Rattle.dc_tree.specs.Entities.{main_scope};
 ghost use Rattle.dc_tree.specs.Statements.{statement, index_ranging};
 ghost use Rattle.dc_tree.specs.Syntax.{tree};

@@ -2,7 +2,7 @@
 
 ghost use Rattle.std.specs.Prelude.{◌≡◌, IsTrue};
 ghost use Rattle.std.specs.Option.{option_copied};
-ghost use Rattle.dc_tree.specs.BuiltPrograms.{is_whole_scalar, are_built_symbols};
+ghost use Rattle.dc_form.specs.BuiltPrograms.{is_whole_scalar, are_built_symbols};
 ghost use Rattle.dc_tree.specs.Entities.{entity, main_scope};
 ghost use Rattle.dc_form.specs.Parts.{is_whole_role, is_whole_symbol};
 

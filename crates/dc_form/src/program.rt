@@ -2,7 +2,7 @@
 
 ghost use Rattle.std.specs.Prelude.{◌≡◌, map, IsTrue};
 ghost use Rattle.dc_tree.specs.Blocks.{item, items_from, source_of};
-ghost use Rattle.dc_tree.specs.BuiltPrograms.{are_built_symbols, is_built_item, are_built_items, is_built};
+ghost use Rattle.dc_form.specs.BuiltPrograms.{are_built_symbols, is_built_item, are_built_items, is_built};
 ghost use Rattle.dc_tree.specs.Entities.{main_scope};
 
 use crate::loops::is_built_loop;

@@ -1,7 +1,7 @@
 //! Assignments and output.
 
 ghost use Rattle.std.specs.Prelude.{◌≡◌};
-ghost use Rattle.dc_tree.specs.BuiltPrograms.{is_held_target, is_built_assignment, is_built_deed, is_built_inside, spares, is_built_line};
+ghost use Rattle.dc_form.specs.BuiltPrograms.{is_held_target, is_built_assignment, is_built_deed, is_built_inside, spares, is_built_line};
 ghost use Rattle.dc_tree.specs.Statements.{target_of, deed, statement};
 
 use crate::values::{all_held, is_held};

@@ -2,7 +2,7 @@
 
 ghost use Rattle.std.specs.Prelude.{◌≡◌, nat_le};
 ghost use Rattle.std.specs.List.{list_all};
-ghost use Rattle.dc_tree.specs.BuiltPrograms.{is_filled, is_built_role, is_built_symbol, role_elements, elements_of_all, greatest_elements, are_built_symbols};
+ghost use Rattle.dc_form.specs.BuiltPrograms.{is_filled, is_built_role, is_built_symbol, role_elements, elements_of_all, greatest_elements, are_built_symbols};
 ghost use Rattle.dc_form.specs.Capped.{capped};
 
 use crate::capping::{capped, size_of};

@@ -2,7 +2,7 @@
 
 ghost use Rattle.std.specs.Prelude.{◌≡◌, map, nat_le};
 ghost use Rattle.std.specs.List.{list_all};
-ghost use Rattle.dc_tree.specs.BuiltPrograms.{is_held, are_held, mentions, some_mentions};
+ghost use Rattle.dc_form.specs.BuiltPrograms.{is_held, are_held, mentions, some_mentions};
 ghost use Rattle.dc_tree.specs.Literals.{number_of};
 ghost use Rattle.dc_tree.specs.Syntax.{tree, arg_tree, args_from};
 

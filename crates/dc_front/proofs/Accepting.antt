@@ -11,7 +11,7 @@ use Rattle.dc_tree.specs.Blocks.{Source, source_of}
 use Rattle.dc_tree.proofs.BlocksBack.{program-told_apart}
 use Rattle.dc_tree.specs.Findings.{IsFirst, found_in}
 use Rattle.dc_tree.proofs.Findings.{first_is_one, none-in_nothing}
-use Rattle.dc_tree.specs.BuiltPrograms.{is_built}
+use Rattle.dc_form.specs.BuiltPrograms.{is_built}
 use Rattle.dc_declare.specs.Declarations.{symbols_of}
 use Rattle.dc_scope.specs.Answer as scope
 use Rattle.dc_scope.specs.Answer.{scope_findings}

@@ -7,7 +7,7 @@ use Rattle.dc_tree.specs.declared.program.Program.{Program}
 use Rattle.dc_tree.specs.declared.symbols.Symbol.{Symbol}
 use Rattle.dc_tree.specs.Blocks.{Source, source_of}
 use Rattle.dc_tree.specs.Findings.{IsFirst, found_in}
-use Rattle.dc_tree.specs.BuiltPrograms.{is_built}
+use Rattle.dc_form.specs.BuiltPrograms.{is_built}
 use Rattle.dc_declare.specs.Declarations.{symbols_of}
 use Rattle.dc_phases.specs.Answer as phases
 use Rattle.dc_scope.specs.Answer.{scope_findings}

@@ -5,7 +5,7 @@ use Rattle.std.specs.Prelude.{nat_le}
 use Rattle.std.specs.List.{list_all}
 use Rattle.dc_tree.specs.declared.symbols.Symbol.{Symbol}
 use Rattle.dc_tree.specs.Blocks.{Subprogram, Source}
-use Rattle.dc_tree.specs.BuiltPrograms.{are_built_items, is_built_symbol, are_built_symbols, greatest_names, greatest_elements, elements_of_all, is_built}
+use Rattle.dc_form.specs.BuiltPrograms.{are_built_items, is_built_symbol, are_built_symbols, greatest_names, greatest_elements, elements_of_all, is_built}
 use Rattle.dc_tree.specs.Entities.{main_scope}
 use Rattle.dc_tree.specs.Symbols.{is_sound}
 use Rattle.dc_sorts.specs.declared.meaning.Meaning.{Meaning}

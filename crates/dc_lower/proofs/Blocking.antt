@@ -7,7 +7,7 @@ use Rattle.dc_int.specs.Sorts.{whole}
 use Rattle.dc_tree.specs.declared.symbols.Symbol.{Symbol}
 use Rattle.dc_tree.specs.Blocks.{Line, Item, Items, plain, branch, select, none, and_then}
 use Rattle.dc_tree.specs.Blocks as blocks
-use Rattle.dc_tree.specs.BuiltPrograms.{is_built_deed, is_built_assignment, is_built_inside, is_built_line, is_built_block, is_whole_scalar, is_built_index, is_built_loop, all_spare, are_built_items, is_built_symbol}
+use Rattle.dc_form.specs.BuiltPrograms.{is_built_deed, is_built_assignment, is_built_inside, is_built_line, is_built_block, is_whole_scalar, is_built_index, is_built_loop, all_spare, are_built_items, is_built_symbol}
 use Rattle.dc_tree.specs.Entities.{Entity, outside, Scope, main_scope}
 use Rattle.dc_tree.specs.Statements.{Name, Ranging, Deed, assign, fill, print, Statement, act}
 use Rattle.dc_tree.specs.Statements as statements

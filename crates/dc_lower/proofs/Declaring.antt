@@ -7,7 +7,7 @@ use Rattle.dc_int.specs.Sorts.{Sort, sort_with}
 use Rattle.dc_int.specs.Store.{Bounds}
 use Rattle.dc_tree.specs.declared.symbols.Role.{Role}
 use Rattle.dc_tree.specs.declared.symbols.Symbol.{Symbol}
-use Rattle.dc_tree.specs.BuiltPrograms.{is_built_symbol, is_built_role, elements_of_all}
+use Rattle.dc_form.specs.BuiltPrograms.{is_built_symbol, is_built_role, elements_of_all}
 use Rattle.dc_tree.specs.Entities.{symbols_in}
 use Rattle.dc_tree.specs.Statements.{Name}
 use Rattle.dc_meaning.specs.Concurrent.{Outside}

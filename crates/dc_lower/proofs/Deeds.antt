@@ -7,7 +7,7 @@ use Rattle.dc_int.specs.Sorts.{Sort, whole, logical}
 use Rattle.dc_int.specs.Store.{Bounds, elements_in}
 use Rattle.dc_tree.specs.declared.symbols.Role as roles
 use Rattle.dc_tree.specs.declared.symbols.Symbol.{Symbol}
-use Rattle.dc_tree.specs.BuiltPrograms.{is_built_deed}
+use Rattle.dc_form.specs.BuiltPrograms.{is_built_deed}
 use Rattle.dc_tree.specs.Entities.{Scope, entity}
 use Rattle.dc_tree.specs.Findings.{finding_if}
 use Rattle.dc_tree.specs.Statements.{Name, Target, Deed, assign, fill, print}

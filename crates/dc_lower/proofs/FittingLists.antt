@@ -14,7 +14,7 @@ use Rattle.dc_code.specs.WellFormed.{is_open, local_groups, bounds_fit, construc
 use Rattle.dc_tree.specs.declared.symbols.Role as roles
 use Rattle.dc_tree.specs.declared.symbols.Symbol.{Symbol}
 use Rattle.dc_tree.specs.Blocks.{Items, Source, plain, none, and_then}
-use Rattle.dc_tree.specs.BuiltPrograms.{elements_of_all}
+use Rattle.dc_form.specs.BuiltPrograms.{elements_of_all}
 use Rattle.dc_tree.specs.Entities.{Entity, outside, Scope, entity, main_scope}
 use Rattle.dc_tree.specs.Statements.{Name, Deed, fill, Statement, act}
 use Rattle.dc_tree.specs.Typing.{sort_of_entity}

@@ -14,7 +14,7 @@ use Rattle.dc_code.specs.Codes.{CodeLists}
 use Rattle.dc_tree.specs.declared.symbols.Role as roles
 use Rattle.dc_tree.specs.declared.symbols.Symbol.{Symbol}
 use Rattle.dc_tree.specs.Blocks.{Items}
-use Rattle.dc_tree.specs.BuiltPrograms.{is_whole_scalar, is_built_symbol, elements_of_all}
+use Rattle.dc_form.specs.BuiltPrograms.{is_whole_scalar, is_built_symbol, elements_of_all}
 use Rattle.dc_tree.specs.Entities.{Entity, outside, slots, constant, Scope, entity, entity_in, outer_names, symbols_in, main_scope}
 use Rattle.dc_tree.specs.Statements.{Name, Ranging}
 use Rattle.dc_tree.specs.Symbols.{is_sound}

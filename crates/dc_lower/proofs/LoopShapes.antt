@@ -11,7 +11,7 @@ use Rattle.dc_code.specs.CodeForms.{local_slots, locality_in, kind_in, sized_loc
 use Rattle.dc_code.specs.Loops.{Copies}
 use Rattle.dc_tree.specs.Blocks as blocks
 use Rattle.dc_tree.specs.Blocks.{Line, Items, plain, branch, select, none, and_then}
-use Rattle.dc_tree.specs.BuiltPrograms.{is_built_inside, is_built_block}
+use Rattle.dc_form.specs.BuiltPrograms.{is_built_inside, is_built_block}
 use Rattle.dc_tree.specs.Entities.{Scope, entity}
 use Rattle.dc_tree.specs.Statements.{Name, Ranging, assign, fill, Statement, concurrent, act}
 use Rattle.dc_meaning.specs.Concurrent.{Outside, Concurrent, Surroundings, locality_of, local_of, is_reduction}

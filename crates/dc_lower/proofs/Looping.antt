@@ -7,7 +7,7 @@ use Rattle.dc_int.specs.Sorts.{Sort, whole, logical}
 use Rattle.dc_tree.specs.declared.symbols.Symbol.{Symbol}
 use Rattle.dc_tree.specs.Blocks.{Line, Item, Items, plain, branch, select, none, and_then}
 use Rattle.dc_tree.specs.Blocks as blocks
-use Rattle.dc_tree.specs.BuiltPrograms.{is_built_line, is_built_block, is_whole_scalar, is_built_limit, is_built_loop, are_built_items, is_built_symbol}
+use Rattle.dc_form.specs.BuiltPrograms.{is_built_line, is_built_block, is_whole_scalar, is_built_limit, is_built_loop, are_built_items, is_built_symbol}
 use Rattle.dc_tree.specs.Entities.{slots, Scope, entity, with_names, main_scope}
 use Rattle.dc_tree.specs.Findings.{finding_if}
 use Rattle.dc_tree.specs.Statements.{Name, Ranging, Statement}

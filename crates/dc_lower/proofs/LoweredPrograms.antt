@@ -9,7 +9,7 @@ use Rattle.dc_code.specs.declared.plan.Plan.{Plan}
 use Rattle.dc_tree.specs.declared.symbols.Symbol.{Symbol}
 use Rattle.dc_tree.specs.Blocks as blocks
 use Rattle.dc_tree.specs.Blocks.{Line, Item, Items, Subprogram, Source, plain, branch, select, none, and_then}
-use Rattle.dc_tree.specs.BuiltPrograms.{is_built, are_built_symbols, is_built_deed, is_built_inside, is_built_line, is_built_block, is_built_loop, are_built_items}
+use Rattle.dc_form.specs.BuiltPrograms.{is_built, are_built_symbols, is_built_deed, is_built_inside, is_built_line, is_built_block, is_built_loop, are_built_items}
 use Rattle.dc_tree.specs.Entities.{Scope, entity, main_scope}
 use Rattle.dc_tree.specs.Statements.{Deed, assign, fill, print, Statement, act}
 use Rattle.dc_meaning.specs.Alone.{index_name}

@@ -13,7 +13,7 @@ use Rattle.dc_code.specs.Codes.{CodeLists}
 use Rattle.dc_code.specs.Frames.{Frame}
 use Rattle.dc_tree.specs.declared.symbols.Role as roles
 use Rattle.dc_tree.specs.declared.symbols.Symbol.{Symbol}
-use Rattle.dc_tree.specs.BuiltPrograms.{is_built_role, is_built_symbol}
+use Rattle.dc_form.specs.BuiltPrograms.{is_built_role, is_built_symbol}
 use Rattle.dc_tree.specs.Entities.{Entity, outside, slots, dummy, constant, function, subroutine, reduction, nothing, Scope, entity, entity_in, symbols_in, outer_names}
 use Rattle.dc_tree.specs.Statements.{Name}
 use Rattle.dc_tree.specs.Symbols.{role_fits, is_sound, stands_in}

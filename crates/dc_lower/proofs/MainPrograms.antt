@@ -16,7 +16,7 @@ use Rattle.dc_code.specs.Reaching.{group_slots}
 use Rattle.dc_code.proofs.Sequences.{sequence-then}
 use Rattle.dc_tree.specs.declared.symbols.Symbol.{Symbol}
 use Rattle.dc_tree.specs.Blocks.{Source}
-use Rattle.dc_tree.specs.BuiltPrograms.{greatest_names, greatest_elements, is_built_symbol, elements_of_all}
+use Rattle.dc_form.specs.BuiltPrograms.{greatest_names, greatest_elements, is_built_symbol, elements_of_all}
 use Rattle.dc_tree.specs.Entities.{entity, symbols_in, main_scope}
 use Rattle.dc_tree.specs.Statements.{Name}
 use Rattle.dc_meaning.specs.Acts.{State}

@@ -8,7 +8,7 @@ use Rattle.dc_int.specs.declared.kind.Kind.{Kind}
 use Rattle.dc_int.specs.Sorts.{whole, sort_with}
 use Rattle.dc_tree.specs.declared.symbols.Role as roles
 use Rattle.dc_tree.specs.declared.symbols.Symbol.{Symbol}
-use Rattle.dc_tree.specs.BuiltPrograms.{is_built_symbol, is_built_role}
+use Rattle.dc_form.specs.BuiltPrograms.{is_built_symbol, is_built_role}
 use Rattle.dc_tree.specs.Entities.{Entity, outside, entity, entity_in, symbols_in, outer_names, main_scope}
 use Rattle.dc_tree.specs.Statements.{Name}
 use Rattle.dc_tree.specs.Symbols.{symbol_at}

@@ -12,7 +12,7 @@ use Rattle.dc_code.specs.declared.instr.What.{What}
 use Rattle.dc_code.specs.StackSorts as items
 use Rattle.dc_code.specs.StackSorts.{Sorts, if_there}
 use Rattle.dc_tree.specs.Blocks.{Line, Items, plain, loop, none, and_then}
-use Rattle.dc_tree.specs.BuiltPrograms.{is_built_assignment, is_built_inside, is_built_block}
+use Rattle.dc_form.specs.BuiltPrograms.{is_built_assignment, is_built_inside, is_built_block}
 use Rattle.dc_tree.specs.Entities.{Entity, outside, Scope, entity}
 use Rattle.dc_tree.specs.Statements.{Name, Ranging, Deed, assign, fill, print, Statement, act}
 use Rattle.dc_tree.specs.Syntax.{Tree, chars, name}

@@ -3,7 +3,7 @@ use Rattle.std.proofs.Common.{◌≡◌, ℕ, suc, ◌+◌, true, cond, List, []
 use Rattle.std.proofs.lemmas.Bool.{false≢true}
 use Rattle.dc_tree.specs.Blocks as trees
 use Rattle.dc_tree.specs.Blocks.{Line, Item, Items, plain, none, and_then}
-use Rattle.dc_tree.specs.BuiltPrograms.{is_whole_scalar, is_built_block, is_built_loop, are_built_items}
+use Rattle.dc_form.specs.BuiltPrograms.{is_whole_scalar, is_built_block, is_built_loop, are_built_items}
 use Rattle.dc_tree.specs.Entities.{Scope, entity}
 use Rattle.dc_tree.specs.Statements as statements
 use Rattle.dc_tree.specs.Statements.{Ranging, Deed, assign, fill, Statement, act}

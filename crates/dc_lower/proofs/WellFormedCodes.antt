@@ -13,7 +13,7 @@ use Rattle.dc_code.specs.StackSorts as items
 use Rattle.dc_code.specs.WellFormed.{IsWellFormed}
 use Rattle.dc_tree.specs.declared.symbols.Symbol.{Symbol}
 use Rattle.dc_tree.specs.Blocks.{Line, Items, Subprogram, Source}
-use Rattle.dc_tree.specs.BuiltPrograms.{is_whole_scalar, is_built_block, is_built, is_built_symbol, are_built_items, elements_of_all}
+use Rattle.dc_form.specs.BuiltPrograms.{is_whole_scalar, is_built_block, is_built, is_built_symbol, are_built_items, elements_of_all}
 use Rattle.dc_tree.specs.Entities.{Scope, entity, symbols_in, main_scope}
 use Rattle.dc_tree.specs.Statements.{Name, Ranging}
 use Rattle.dc_meaning.specs.Concurrent.{Concurrent, Surroundings, block_scope}

@@ -3,7 +3,7 @@
 use Rattle.std.specs.Prelude.{Bool, true, false, ◌&&◌, nat_eq, length, Option, Some, None}
 use Rattle.std.specs.List.{list_all}
 use Rattle.dc_tree.specs.Blocks.{Item, Items, plain, loop, none, and_then}
-use Rattle.dc_tree.specs.BuiltPrograms.{is_held, is_held_target}
+use Rattle.dc_form.specs.BuiltPrograms.{is_held, is_held_target}
 use Rattle.dc_tree.specs.Entities.{Scope, entity}
 use Rattle.dc_tree.specs.Statements.{Ranging, Deed, assign, fill, print, Statement, act}
 use Rattle.dc_tree.specs.Syntax.{Tree}

@@ -7,7 +7,7 @@ use Rattle.dc_int.specs.Store.{Bounds}
 use Rattle.dc_tree.specs.declared.symbols.Role as roles
 use Rattle.dc_tree.specs.declared.symbols.Symbol.{Symbol}
 use Rattle.dc_tree.specs.Blocks.{Source}
-use Rattle.dc_tree.specs.BuiltPrograms.{is_built}
+use Rattle.dc_form.specs.BuiltPrograms.{is_built}
 use Rattle.dc_tree.specs.Entities.{Scope, main_scope}
 use Rattle.dc_tree.specs.Statements.{Ranging}
 use Rattle.dc_tree.specs.Symbols.{is_sound}

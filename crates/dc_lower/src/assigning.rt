@@ -3,7 +3,7 @@
 ghost use Rattle.std.specs.Prelude.{◌≡◌, ◌++◌, map, option_map, OnOk, IsTrue};
 ghost use Rattle.dc_entities.specs.Found.{entity_of};
 ghost use Rattle.dc_sorts.specs.Forms.{sort_of_form};
-ghost use Rattle.dc_tree.specs.BuiltPrograms.{is_held, is_held_target};
+ghost use Rattle.dc_form.specs.BuiltPrograms.{is_held, is_held_target};
 ghost use Rattle.dc_tree.specs.Statements.{target_of};
 ghost use Rattle.dc_tree.specs.Syntax.{tree};
 ghost use Rattle.dc_lower.specs.Assigning.{conversion_code, storing_code, assignment_code};

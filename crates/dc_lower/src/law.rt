@@ -22,7 +22,7 @@ ghost use Rattle.dc_code.specs.Machine.{machine, new_frame};
 ghost use Rattle.dc_code.specs.WellFormed.{IsWellFormed};
 ghost use Rattle.dc_tree.specs.declared.symbols.Symbol.{Symbol};
 ghost use Rattle.dc_tree.specs.Blocks.{Items, Source};
-ghost use Rattle.dc_tree.specs.BuiltPrograms.{is_built};
+ghost use Rattle.dc_form.specs.BuiltPrograms.{is_built};
 ghost use Rattle.dc_tree.specs.Entities.{Scope, entity};
 ghost use Rattle.dc_tree.specs.Statements.{Name, Target};
 ghost use Rattle.dc_tree.specs.Symbols.{is_sound};

@@ -6,7 +6,7 @@ ghost use Rattle.std.specs.List.{list_all};
 ghost use Rattle.dc_int.specs.Store.{extent, elements_in};
 ghost use Rattle.dc_entities.specs.Found.{entity_of, bounds_found};
 ghost use Rattle.dc_sorts.specs.Forms.{sort_of_form};
-ghost use Rattle.dc_tree.specs.BuiltPrograms.{is_held};
+ghost use Rattle.dc_form.specs.BuiltPrograms.{is_held};
 ghost use Rattle.dc_tree.specs.Entities.{entity};
 ghost use Rattle.dc_tree.specs.Syntax.{tree};
 ghost use Rattle.dc_tree.specs.Typing.{sort_of_entity};

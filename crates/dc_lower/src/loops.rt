@@ -2,7 +2,7 @@
 
 ghost use Rattle.std.specs.Prelude.{◌≡◌, ◌++◌, [], ◌∷◌, map, IfOk, OnOk, IsTrue};
 ghost use Rattle.dc_code.specs.declared.instr.What.{What};
-ghost use Rattle.dc_tree.specs.BuiltPrograms.{is_held};
+ghost use Rattle.dc_form.specs.BuiltPrograms.{is_held};
 ghost use Rattle.dc_tree.specs.Statements.{index_ranging};
 ghost use Rattle.dc_tree.specs.Syntax.{tree};
 ghost use Rattle.dc_lower.specs.Blocks.{lined};

@@ -4,7 +4,7 @@ ghost use Rattle.std.specs.Prelude.{◌≡◌, ◌++◌, [], ◌∷◌, length, 
 ghost use Rattle.std.specs.List.{list_all};
 ghost use Rattle.dc_entities.specs.Found.{entity_of};
 ghost use Rattle.dc_sorts.specs.Forms.{sort_of_form};
-ghost use Rattle.dc_tree.specs.BuiltPrograms.{is_held};
+ghost use Rattle.dc_form.specs.BuiltPrograms.{is_held};
 ghost use Rattle.dc_tree.specs.Syntax as syntax;
 ghost use Rattle.dc_tree.specs.Syntax.{tree};
 ghost use Rattle.dc_lower.specs.Naming.{scope_of, AreNamed};

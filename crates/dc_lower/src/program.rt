@@ -5,7 +5,7 @@ ghost use Rattle.dc_int.specs.declared.variable.Locality.{Locality};
 ghost use Rattle.dc_entities.specs.Numbering.{numbers_of};
 ghost use Rattle.dc_sorts.specs.Standing.{index_entity};
 ghost use Rattle.dc_tree.specs.Blocks.{item, items, items_from, line_of, source_of};
-ghost use Rattle.dc_tree.specs.BuiltPrograms.{are_built_symbols, is_built_loop, is_built_item, are_built_items};
+ghost use Rattle.dc_form.specs.BuiltPrograms.{are_built_symbols, is_built_loop, is_built_item, are_built_items};
 ghost use Rattle.dc_tree.specs.Entities.{main_scope, with_names};
 ghost use Rattle.dc_tree.specs.Statements.{statement};
 ghost use Rattle.dc_meaning.specs.Alone.{index_name};

@@ -6,7 +6,7 @@ ghost use Rattle.std.specs.List.{list_all};
 ghost use Rattle.dc_sorts.specs.Functions.{function_of};
 ghost use Rattle.dc_sorts.specs.Knowing as knowing;
 ghost use Rattle.dc_sorts.specs.Knowing.{known_of};
-ghost use Rattle.dc_tree.specs.BuiltPrograms.{is_held, are_held};
+ghost use Rattle.dc_form.specs.BuiltPrograms.{is_held, are_held};
 ghost use Rattle.dc_tree.specs.Intrinsics as functions;
 ghost use Rattle.dc_tree.specs.Syntax as syntax;
 ghost use Rattle.dc_tree.specs.Syntax.{refer, tree, arg_tree, args_from};

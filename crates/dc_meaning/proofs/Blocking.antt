@@ -11,7 +11,7 @@ use Rattle.dc_tree.specs.declared.program.Node.{Node, Plain}
 use Rattle.dc_tree.specs.declared.stmt.Action as code
 use Rattle.dc_tree.specs.declared.stmt.Stmt.{Stmt}
 use Rattle.dc_tree.specs.Blocks.{Item, Items, plain, branch, select, loop, and_then, line_of, item, items_from}
-use Rattle.dc_tree.specs.BuiltPrograms.{is_built_inside, is_built_block, spares, all_spare}
+use Rattle.dc_form.specs.BuiltPrograms.{is_built_inside, is_built_block, spares, all_spare}
 use Rattle.dc_tree.specs.Entities.{Scope}
 use Rattle.dc_tree.specs.Statements as statements
 use Rattle.dc_tree.specs.Statements.{Name, Statement, deed, statement}

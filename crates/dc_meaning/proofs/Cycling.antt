@@ -9,7 +9,7 @@ use Rattle.dc_plain.specs.Views.{View}
 use Rattle.dc_tree.specs.declared.expr.Arg.{Arg, out-Arg, fold_out-Arg}
 use Rattle.dc_tree.specs.declared.expr.Expr.{Expr, Refer, Paren, Unary, Binary}
 use Rattle.dc_tree.specs.declared.token.Mark.{Mark}
-use Rattle.dc_tree.specs.BuiltPrograms.{is_held, are_held}
+use Rattle.dc_form.specs.BuiltPrograms.{is_held, are_held}
 use Rattle.dc_tree.specs.Entities.{Scope}
 use Rattle.dc_tree.specs.Syntax.{Tree, refer, paren, unary, binary, tree, arg_tree, args_from, tree_step, arg_step}
 use Rattle.dc_tree.proofs.Views.{tree-Refer, tree-Paren, tree-Unary, tree-Binary}

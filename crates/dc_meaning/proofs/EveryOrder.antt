@@ -24,7 +24,7 @@ use Rattle.dc_code.proofs.Reduced.{HoldsCombinable}
 use Rattle.dc_plain.specs.Plainly.{plain}
 use Rattle.dc_tree.specs.declared.symbols.Symbol.{Symbol}
 use Rattle.dc_tree.specs.Blocks.{Line, Items, Source}
-use Rattle.dc_tree.specs.BuiltPrograms.{is_built}
+use Rattle.dc_form.specs.BuiltPrograms.{is_built}
 use Rattle.dc_tree.specs.Entities.{Scope, entity, main_scope}
 use Rattle.dc_tree.specs.Statements.{Name}
 use Rattle.dc_meaning.specs.Alone.{index_name, nth_loop}

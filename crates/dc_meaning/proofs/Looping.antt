@@ -9,7 +9,7 @@ use Rattle.dc_tree.specs.declared.program.Node.{Node}
 use Rattle.dc_tree.specs.declared.symbols.Symbol.{Symbol}
 use Rattle.dc_tree.specs.Blocks as blocks
 use Rattle.dc_tree.specs.Blocks.{Line, Item, Items, none, and_then, plain, branch, select, item, items, items_from, item_step, items_step, part_step}
-use Rattle.dc_tree.specs.BuiltPrograms.{is_held, mentions, is_whole_scalar, is_built_limit, is_built_index, is_built_inside, is_built_block, all_spare, is_built_line, is_built_loop, are_built_items}
+use Rattle.dc_form.specs.BuiltPrograms.{is_held, mentions, is_whole_scalar, is_built_limit, is_built_index, is_built_inside, is_built_block, all_spare, is_built_line, is_built_loop, are_built_items}
 use Rattle.dc_tree.specs.Entities.{Entity, outside, slots, dummy, constant, function, subroutine, reduction, nothing, Scope, entity, main_scope, with_names}
 use Rattle.dc_tree.specs.Typing.{sort_of_entity}
 use Rattle.dc_tree.specs.Statements as statements

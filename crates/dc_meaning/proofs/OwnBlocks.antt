@@ -9,7 +9,7 @@ use Rattle.dc_code.specs.declared.frame.Place.{Place}
 use Rattle.dc_code.specs.Troubles.{Slots, write_line, enter_loop}
 use Rattle.dc_tree.specs.Blocks as blocks
 use Rattle.dc_tree.specs.Blocks.{Items, none, and_then, plain, branch, select}
-use Rattle.dc_tree.specs.BuiltPrograms.{is_built_assignment, is_built_deed, is_built_inside, is_built_block, is_built_line, is_built_loop, are_built_items}
+use Rattle.dc_form.specs.BuiltPrograms.{is_built_assignment, is_built_deed, is_built_inside, is_built_block, is_built_line, is_built_loop, are_built_items}
 use Rattle.dc_tree.specs.Entities.{Entity, outside, slots, dummy, constant, function, subroutine, reduction, nothing, Scope, entity}
 use Rattle.dc_tree.specs.Statements as statements
 use Rattle.dc_tree.specs.Statements.{Name, Target, Deed, Statement}

@@ -8,7 +8,7 @@ use Rattle.dc_code.specs.Troubles.{Slots, write_line, enter_loop}
 use Rattle.dc_tree.specs.declared.symbols.Role.{Role}
 use Rattle.dc_tree.specs.declared.symbols.Symbol.{Symbol}
 use Rattle.dc_tree.specs.Blocks.{Source}
-use Rattle.dc_tree.specs.BuiltPrograms.{are_built_items, greatest_names, greatest_elements, elements_of_all, is_built_role, is_built_symbol, are_built_symbols}
+use Rattle.dc_form.specs.BuiltPrograms.{are_built_items, greatest_names, greatest_elements, elements_of_all, is_built_role, is_built_symbol, are_built_symbols}
 use Rattle.dc_tree.specs.Entities.{Entity, outside, constant, nothing, Scope, entity_in, entity, with_names, symbols_in, is_variable, outer_names, main_scope}
 use Rattle.dc_tree.specs.Statements.{Name}
 use Rattle.dc_meaning.specs.Execution.{exec_all}

@@ -9,7 +9,7 @@ use Rattle.dc_int.specs.Sorts.{Sort, sort_with, fitted}
 use Rattle.dc_int.proofs.Fits.{fitted-fits}
 use Rattle.dc_tree.specs.declared.symbols.Role.{Role}
 use Rattle.dc_tree.specs.declared.symbols.Symbol.{Symbol}
-use Rattle.dc_tree.specs.BuiltPrograms.{are_built_symbols}
+use Rattle.dc_form.specs.BuiltPrograms.{are_built_symbols}
 use Rattle.dc_tree.specs.Entities.{outside, entity, main_scope}
 use Rattle.dc_tree.specs.Statements.{Name}
 use Rattle.dc_tree.specs.Typing.{sort_of_entity}

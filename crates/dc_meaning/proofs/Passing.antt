@@ -14,7 +14,7 @@ use Rattle.dc_plain.specs.Views.{View, noted, store_with}
 use Rattle.dc_tree.specs.declared.program.Program.{Program}
 use Rattle.dc_tree.specs.declared.symbols.Symbol.{Symbol}
 use Rattle.dc_tree.specs.Blocks.{Line, Items, Subprogram, Source, source_of}
-use Rattle.dc_tree.specs.BuiltPrograms.{are_built_symbols, are_built_items, is_built_loop, is_built}
+use Rattle.dc_form.specs.BuiltPrograms.{are_built_symbols, are_built_items, is_built_loop, is_built}
 use Rattle.dc_tree.specs.Entities.{main_scope}
 use Rattle.dc_meaning.specs.declared.alone_out.AloneOut.{AloneOut}
 use Rattle.dc_meaning.specs.declared.stop.Stop.{Stop}

@@ -11,7 +11,7 @@ use Rattle.dc_code.specs.declared.frame.Place.{Place}
 use Rattle.dc_code.specs.Troubles.{Slots}
 use Rattle.dc_plain.specs.Views.{View, noted}
 use Rattle.dc_tree.specs.declared.expr.Expr.{Expr}
-use Rattle.dc_tree.specs.BuiltPrograms.{is_held, is_held_target}
+use Rattle.dc_form.specs.BuiltPrograms.{is_held, is_held_target}
 use Rattle.dc_tree.specs.Statements.{Name, Target}
 use Rattle.dc_tree.specs.Entities.{Entity, outside, slots, dummy, constant, function, subroutine, reduction, nothing, Scope}
 use Rattle.dc_tree.specs.Syntax.{Tree, tree}

@@ -11,7 +11,7 @@ use Rattle.dc_sorts.specs.declared.standing.IndexName.{IndexName}
 use Rattle.dc_sorts.specs.Standing.{standing_of, scope_at, index_entity, unit_scope}
 use Rattle.dc_tree.specs.declared.symbols.Symbol.{Symbol}
 use Rattle.dc_tree.specs.Blocks.{Items, items}
-use Rattle.dc_tree.specs.BuiltPrograms.{is_built_block, all_spare, are_built_symbols, is_built_loop}
+use Rattle.dc_form.specs.BuiltPrograms.{is_built_block, all_spare, are_built_symbols, is_built_loop}
 use Rattle.dc_tree.specs.Entities.{Scope, main_scope, with_names}
 use Rattle.dc_tree.specs.Statements.{Ranging, Statement}
 use Rattle.dc_meaning.specs.declared.stop.Stop.{Stop}

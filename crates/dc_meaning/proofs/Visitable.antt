@@ -17,7 +17,7 @@ use Rattle.dc_plain.specs.Views.{View}
 use Rattle.dc_tree.specs.declared.symbols.Role as roles
 use Rattle.dc_tree.specs.declared.symbols.Symbol.{Symbol}
 use Rattle.dc_tree.specs.Blocks.{Line, Items, Source}
-use Rattle.dc_tree.specs.BuiltPrograms.{are_built_symbols, is_built}
+use Rattle.dc_form.specs.BuiltPrograms.{are_built_symbols, is_built}
 use Rattle.dc_tree.specs.Entities.{Entity, slots, Scope, entity, entity_in, result_in, procedure_entity, symbols_in, outer_names, main_scope}
 use Rattle.dc_tree.specs.Statements.{Name}
 use Rattle.dc_meaning.specs.declared.stop.Stop.{Stop}

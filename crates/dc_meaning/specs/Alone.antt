@@ -11,7 +11,7 @@ use Rattle.dc_tree.specs.declared.program.Program.{Program}
 use Rattle.dc_tree.specs.declared.symbols.Symbol.{Symbol}
 use Rattle.dc_tree.specs.Blocks as blocks
 use Rattle.dc_tree.specs.Blocks.{Line, Items, Item, none, and_then, Source, source_of}
-use Rattle.dc_tree.specs.BuiltPrograms.{is_built}
+use Rattle.dc_form.specs.BuiltPrograms.{is_built}
 use Rattle.dc_tree.specs.Statements.{Name, Statement, concurrent}
 use Rattle.dc_meaning.specs.declared.alone_out.AloneOut.{AloneOut}
 use Rattle.dc_meaning.specs.declared.stop.Stop.{Stop}

@@ -8,7 +8,7 @@ use Rattle.dc_code.specs.declared.verdict.Verdict as answers
 use Rattle.dc_code.specs.Loops.{Passage, Loop, alone, Ordered, order, closed}
 use Rattle.dc_code.specs.Troubles.{ended}
 use Rattle.dc_code.specs.Verdicts.{Verdict, go_on, in_iteration, race, bad_iteration, verdict, seen}
-use Rattle.dc_tree.specs.BuiltPrograms.{is_built_block}
+use Rattle.dc_form.specs.BuiltPrograms.{is_built_block}
 use Rattle.dc_tree.specs.Blocks.{Items, items}
 use Rattle.dc_tree.specs.Entities.{Scope}
 use Rattle.dc_entities.specs.Found.{IsNamed}

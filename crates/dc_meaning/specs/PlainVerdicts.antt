@@ -7,7 +7,7 @@ use Rattle.dc_code.specs.Verdicts.{go_on, in_iteration, race, verdict}
 use Rattle.dc_tree.specs.declared.program.Program.{Program}
 use Rattle.dc_tree.specs.declared.symbols.Symbol.{Symbol}
 use Rattle.dc_tree.specs.Blocks.{source_of}
-use Rattle.dc_tree.specs.BuiltPrograms.{is_built}
+use Rattle.dc_form.specs.BuiltPrograms.{is_built}
 use Rattle.dc_meaning.specs.declared.plain.PlainVerdict.{PlainVerdict}
 use Rattle.dc_meaning.specs.Judging.{combination}
 use Rattle.dc_meaning.specs.Programs.{program_loops}

@@ -14,7 +14,7 @@ use Rattle.dc_code.specs.Verdicts.{Verdict, go_on, seen, judged_by}
 use Rattle.dc_code.specs.Visits.{Visited}
 use Rattle.dc_tree.specs.declared.symbols.Symbol.{Symbol}
 use Rattle.dc_tree.specs.Blocks.{Items, Source}
-use Rattle.dc_tree.specs.BuiltPrograms.{are_built_symbols, is_built_loop}
+use Rattle.dc_form.specs.BuiltPrograms.{are_built_symbols, is_built_loop}
 use Rattle.dc_tree.specs.Entities.{main_scope}
 use Rattle.dc_tree.specs.Statements.{Ranging, Statement, concurrent}
 use Rattle.dc_meaning.specs.declared.header.Limits.{Limits}

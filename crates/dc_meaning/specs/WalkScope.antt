@@ -7,7 +7,7 @@ use Rattle.dc_int.specs.declared.kind.Kind.{Kind}
 use Rattle.dc_int.specs.Sorts.{whole, kind_of}
 use Rattle.dc_tree.specs.declared.symbols.Symbol.{Symbol}
 use Rattle.dc_tree.specs.Blocks.{Item, Items, plain}
-use Rattle.dc_tree.specs.BuiltPrograms.{is_built_inside, spares, all_spare}
+use Rattle.dc_form.specs.BuiltPrograms.{is_built_inside, spares, all_spare}
 use Rattle.dc_tree.specs.Entities.{Entity, Scope, slots, entity, main_scope, with_names}
 use Rattle.dc_tree.specs.Statements.{Name, Statement}
 use Rattle.dc_tree.specs.Typing.{sort_of_entity}

@@ -7,7 +7,7 @@ ghost use Rattle.dc_entities.specs.Found.{entity_of, bounds_found};
 ghost use Rattle.dc_int.specs.declared.fault.Why.{Why};
 ghost use Rattle.dc_int.specs.Store.{elements_in};
 ghost use Rattle.dc_sorts.specs.Forms.{sort_of_form};
-ghost use Rattle.dc_tree.specs.BuiltPrograms.{is_held, is_held_target};
+ghost use Rattle.dc_form.specs.BuiltPrograms.{is_held, is_held_target};
 ghost use Rattle.dc_tree.specs.Entities.{entity, outside};
 ghost use Rattle.dc_tree.specs.Statements.{target_of};
 ghost use Rattle.dc_tree.specs.Syntax.{tree};

@@ -1,7 +1,7 @@
 //! The assignments of a loop's block.
 
 ghost use Rattle.std.specs.Prelude.{IsTrue};
-ghost use Rattle.dc_tree.specs.BuiltPrograms.{is_built_assignment};
+ghost use Rattle.dc_form.specs.BuiltPrograms.{is_built_assignment};
 ghost use Rattle.dc_tree.specs.Statements as statements;
 ghost use Rattle.dc_tree.specs.Statements.{deed};
 ghost use Rattle.dc_meaning.specs.Actions as actions;

@@ -2,7 +2,7 @@
 
 ghost use Rattle.std.specs.Prelude.{◌≡◌, ℕ, IsTrue, map};
 ghost use Rattle.dc_tree.specs.Blocks.{item, items_from};
-ghost use Rattle.dc_tree.specs.BuiltPrograms.{is_built_block};
+ghost use Rattle.dc_form.specs.BuiltPrograms.{is_built_block};
 ghost use Rattle.dc_meaning.specs.Actions as actions;
 ghost use Rattle.dc_meaning.specs.Execution.{exec, exec_all};
 ghost use Rattle.dc_meaning.specs.Walking.{Stays};

@@ -2,7 +2,7 @@
 
 ghost use Rattle.std.specs.Prelude.{◌≡◌, [], ◌∷◌, IfOk, IsTrue};
 ghost use Rattle.dc_entities.specs.Numbering.{numbers_of};
-ghost use Rattle.dc_tree.specs.BuiltPrograms.{are_built_symbols};
+ghost use Rattle.dc_form.specs.BuiltPrograms.{are_built_symbols};
 ghost use Rattle.dc_tree.specs.Statements.{index_ranging, statement};
 ghost use Rattle.dc_meaning.specs.Visiting as visiting;
 ghost use Rattle.dc_meaning.specs.WalkScope.{kind_of_index};

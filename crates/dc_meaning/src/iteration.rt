@@ -3,7 +3,7 @@
 ghost use Rattle.std.specs.Prelude.{◌≡◌, ℕ, [], ◌∷◌, length, IfOk, IsTrue};
 ghost use Rattle.dc_entities.specs.Numbering.{numbers_of};
 ghost use Rattle.dc_tree.specs.Blocks.{items, source_of};
-ghost use Rattle.dc_tree.specs.BuiltPrograms.{are_built_symbols, is_built, is_built_loop};
+ghost use Rattle.dc_form.specs.BuiltPrograms.{are_built_symbols, is_built, is_built_loop};
 ghost use Rattle.dc_tree.specs.Entities.{main_scope};
 ghost use Rattle.dc_tree.specs.Statements.{statement};
 ghost use Rattle.dc_meaning.specs.Actions as actions;

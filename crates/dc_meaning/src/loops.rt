@@ -4,7 +4,7 @@ ghost use Rattle.std.specs.Prelude.{◌≡◌, ℕ, ◌≤◌, IsTrue, Some, [],
 ghost use Rattle.dc_entities.specs.Found.{IsNamed};
 ghost use Rattle.dc_sorts.specs.Standing.{standing_of, scope_at};
 ghost use Rattle.dc_tree.specs.Blocks.{item, items, items_from};
-ghost use Rattle.dc_tree.specs.BuiltPrograms.{is_built_block};
+ghost use Rattle.dc_form.specs.BuiltPrograms.{is_built_block};
 ghost use Rattle.dc_meaning.specs.Actions as actions;
 ghost use Rattle.dc_meaning.specs.Alone.{nth_loop};
 ghost use Rattle.dc_meaning.specs.Execution.{exec_all};

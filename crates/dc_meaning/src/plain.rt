@@ -4,7 +4,7 @@ ghost use Rattle.std.specs.Prelude.{◌≡◌, ◌≤◌, ℕ, List, length, sli
 ghost use Rattle.dc_code.specs.Loops.{Loop};
 ghost use Rattle.dc_tree.specs.declared.symbols.Symbol.{Symbol};
 ghost use Rattle.dc_tree.specs.Blocks.{source_of};
-ghost use Rattle.dc_tree.specs.BuiltPrograms.{is_built};
+ghost use Rattle.dc_form.specs.BuiltPrograms.{is_built};
 ghost use Rattle.dc_meaning.specs.Judging.{IsTask, bad_of, runs_of};
 ghost use Rattle.dc_plain.specs.Marks.{blank_marks, marked_runs};
 ghost use Rattle.dc_plain.specs.MarkViews.{marks_of, FitStore};

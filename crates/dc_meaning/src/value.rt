@@ -2,7 +2,7 @@
 
 ghost use Rattle.std.specs.Prelude.{◌≡◌, map, IsTrue};
 ghost use Rattle.std.specs.List.{list_all};
-ghost use Rattle.dc_tree.specs.BuiltPrograms.{is_held, are_held};
+ghost use Rattle.dc_form.specs.BuiltPrograms.{is_held, are_held};
 ghost use Rattle.dc_tree.specs.Syntax.{tree, arg_tree, args_from};
 ghost use Rattle.dc_meaning.specs.Values as values;
 ghost use Rattle.dc_meaning.specs.Walking.{Stays};

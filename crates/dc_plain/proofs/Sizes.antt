@@ -10,7 +10,7 @@ use Rattle.dc_int.specs.Entries.{Entry}
 use Rattle.dc_int.specs.Store.{Bounds, Store, Variable, with_cell, changed_at, put_at, elements_in}
 use Rattle.dc_tree.specs.declared.symbols.Role.{Role}
 use Rattle.dc_tree.specs.declared.symbols.Symbol.{Symbol}
-use Rattle.dc_tree.specs.BuiltPrograms.{is_filled, is_built_symbol, is_built_role, role_elements, elements_of_all, are_built_symbols}
+use Rattle.dc_form.specs.BuiltPrograms.{is_filled, is_built_symbol, is_built_role, role_elements, elements_of_all, are_built_symbols}
 use Rattle.dc_plain.specs.declared.marks.Mark as code
 use Rattle.dc_plain.specs.FirstStores.{begun, first_cells, first_store}
 use Rattle.dc_plain.specs.Marks.{Mark, Marks, marked_runs, blank, blank_marks, is_twice, forget_in_row, forget_from}

@@ -3,7 +3,7 @@
 ghost use Rattle.std.specs.Prelude.{IsTrue, IfOk, ◌≡◌, ◌≤◌};
 ghost use Rattle.std.specs.List.{list_all};
 ghost use Rattle.dc_int.specs.Store.{elements_in};
-ghost use Rattle.dc_tree.specs.BuiltPrograms.{is_built_symbol, elements_of_all};
+ghost use Rattle.dc_form.specs.BuiltPrograms.{is_built_symbol, elements_of_all};
 ghost use Rattle.dc_plain.specs.FirstStores.{begun, first_cells, first_store};
 ghost use Rattle.dc_plain.specs.Views.{variable_of, store_of};
 

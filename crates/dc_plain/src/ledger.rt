@@ -9,7 +9,7 @@ ghost use Rattle.dc_plain.specs.MarkViews.{marks_of, FitStore};
 ghost use Rattle.dc_plain.specs.Views.{fresh, noted, variable_of, store_of, entries_of};
 ghost use Rattle.dc_plain.specs.Views.{store_with, states_in};
 ghost use Rattle.dc_plain.specs.FirstStores.{first_store};
-ghost use Rattle.dc_tree.specs.BuiltPrograms.{are_built_symbols};
+ghost use Rattle.dc_form.specs.BuiltPrograms.{are_built_symbols};
 
 use crate::back::take_back;
 use crate::beginning::initial_variables;

@@ -1,7 +1,7 @@
 //! Variables with the states that a loop opens with.
 
 ghost use Rattle.std.specs.Prelude.{◌≡◌, ◌≤◌, Some, IfOk};
-ghost use Rattle.dc_tree.specs.BuiltPrograms.{elements_of_all};
+ghost use Rattle.dc_form.specs.BuiltPrograms.{elements_of_all};
 ghost use Rattle.dc_plain.specs.Views.{variable_of, store_of, store_with};
 
 use crate::note::Variable;

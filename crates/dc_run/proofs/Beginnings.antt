@@ -10,7 +10,7 @@ use Rattle.dc_code.specs.Machine.{new_frame}
 use Rattle.dc_tree.specs.declared.symbols.Symbol.{Symbol}
 use Rattle.dc_tree.specs.declared.program.Node.{Node}
 use Rattle.dc_tree.specs.Blocks.{Item, Items, Source, plain, branch, select, loop, item, items_from}
-use Rattle.dc_tree.specs.BuiltPrograms.{is_built, is_built_item, is_built_loop, is_built_block, is_built_index, all_spare, is_built_symbol, are_built_items, are_built_symbols, elements_of_all, greatest_elements, greatest_names}
+use Rattle.dc_form.specs.BuiltPrograms.{is_built, is_built_item, is_built_loop, is_built_block, is_built_index, all_spare, is_built_symbol, are_built_items, are_built_symbols, elements_of_all, greatest_elements, greatest_names}
 use Rattle.dc_tree.specs.Entities.{Scope, main_scope, symbols_in}
 use Rattle.dc_tree.specs.Symbols.{is_sound}
 use Rattle.dc_tree.specs.Statements.{Statement, concurrent}

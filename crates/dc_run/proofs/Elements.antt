@@ -8,7 +8,7 @@ use Rattle.dc_int.specs.declared.access.ElementId.{ElementId}
 use Rattle.dc_int.specs.Store.{elements_in}
 use Rattle.dc_tree.specs.declared.symbols.Role.{Role}
 use Rattle.dc_tree.specs.declared.symbols.Symbol.{Symbol}
-use Rattle.dc_tree.specs.BuiltPrograms.{greatest_names, greatest_elements, role_elements, elements_of_all, is_built_symbol, are_built_symbols}
+use Rattle.dc_form.specs.BuiltPrograms.{greatest_names, greatest_elements, role_elements, elements_of_all, is_built_symbol, are_built_symbols}
 use Rattle.dc_tree.specs.Entities.{entity, is_variable, symbols_in, main_scope}
 use Rattle.dc_tree.specs.Statements.{Name}
 use Rattle.dc_meaning.proofs.Doing.{May, quietly}

@@ -9,7 +9,7 @@ use Rattle.dc_int.specs.Shapes.{cell_fits, variable_fits, store_fits}
 use Rattle.dc_int.specs.Store.{Bounds, Variable, elements_in}
 use Rattle.dc_tree.specs.declared.symbols.Role.{Role}
 use Rattle.dc_tree.specs.declared.symbols.Symbol.{Symbol}
-use Rattle.dc_tree.specs.BuiltPrograms.{is_filled, is_built_role, is_built_symbol}
+use Rattle.dc_form.specs.BuiltPrograms.{is_filled, is_built_role, is_built_symbol}
 use Rattle.dc_tree.specs.Entities.{symbols_in}
 use Rattle.dc_tree.specs.Symbols.{role_fits, stands_in, is_sound}
 use Rattle.dc_meaning.specs.Programs.{first_store, first_variable, first_cells}

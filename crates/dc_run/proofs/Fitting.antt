@@ -10,7 +10,7 @@ use Rattle.dc_code.specs.Troubles.{Event, take_elements}
 use Rattle.dc_tree.specs.declared.symbols.Role.{Role}
 use Rattle.dc_tree.specs.declared.symbols.Symbol.{Symbol}
 use Rattle.dc_tree.specs.Blocks.{Source}
-use Rattle.dc_tree.specs.BuiltPrograms.{are_built_symbols, are_built_items}
+use Rattle.dc_form.specs.BuiltPrograms.{are_built_symbols, are_built_items}
 use Rattle.dc_tree.specs.Entities.{is_variable, symbols_in, main_scope}
 use Rattle.dc_tree.specs.Typing.{sort_of_entity}
 use Rattle.dc_meaning.specs.Programs.{main_computation}

@@ -3,7 +3,7 @@ use Rattle.std.proofs.Common.{◌≡◌, true, List, sym, ap, ◌∙◌, subst}
 use Rattle.std.specs.List.{list_all}
 use Rattle.dc_tree.specs.declared.symbols.Symbol.{Symbol}
 use Rattle.dc_tree.specs.Blocks.{Source}
-use Rattle.dc_tree.specs.BuiltPrograms.{is_built}
+use Rattle.dc_form.specs.BuiltPrograms.{is_built}
 use Rattle.dc_tree.specs.Symbols.{is_sound}
 use Rattle.dc_front.specs.Form.{IsRunnable}
 use Rattle.dc_lower.specs.Lowerable.{IsLowerable}

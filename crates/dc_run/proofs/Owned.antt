@@ -15,7 +15,7 @@ use Rattle.dc_code.specs.Visits.{Visited}
 use Rattle.dc_code.proofs.Orders.{race-in_order}
 use Rattle.dc_tree.specs.declared.symbols.Symbol.{Symbol}
 use Rattle.dc_tree.specs.Blocks.{Source}
-use Rattle.dc_tree.specs.BuiltPrograms.{are_built_symbols, is_built}
+use Rattle.dc_form.specs.BuiltPrograms.{are_built_symbols, is_built}
 use Rattle.dc_meaning.specs.Programs.{program_forms}
 use Rattle.dc_meaning.proofs.EveryOrder.{accesses-may}
 use Rattle.dc_meaning.proofs.Passing.{built-source}

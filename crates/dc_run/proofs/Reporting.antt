@@ -20,7 +20,7 @@ use Rattle.dc_code.specs.Visits.{Visited, visited}
 use Rattle.dc_lists.specs.Input as input
 use Rattle.dc_tree.specs.declared.symbols.Symbol.{Symbol}
 use Rattle.dc_tree.specs.Blocks.{Source}
-use Rattle.dc_tree.specs.BuiltPrograms.{is_built}
+use Rattle.dc_form.specs.BuiltPrograms.{is_built}
 use Rattle.dc_tree.specs.Symbols.{is_sound}
 use Rattle.dc_meaning.specs.Programs.{first_store, main_computation, program_forms}
 use Rattle.dc_meaning.proofs.EveryOrder.{loop-says}

@@ -18,7 +18,7 @@ use Rattle.dc_code.specs.Visits.{Visited}
 use Rattle.dc_lists.specs.Input as input
 use Rattle.dc_tree.specs.declared.symbols.Symbol.{Symbol}
 use Rattle.dc_tree.specs.Blocks.{Source}
-use Rattle.dc_tree.specs.BuiltPrograms.{greatest_names, greatest_elements, elements_of_all, is_built_symbol, are_built_symbols, is_built}
+use Rattle.dc_form.specs.BuiltPrograms.{greatest_names, greatest_elements, elements_of_all, is_built_symbol, are_built_symbols, is_built}
 use Rattle.dc_tree.specs.Symbols.{is_sound}
 use Rattle.dc_meaning.specs.Programs.{first_store, main_computation}
 use Rattle.dc_meaning.proofs.Doing.{Any, Only}

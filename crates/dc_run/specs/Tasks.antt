@@ -8,7 +8,7 @@ use Rattle.dc_code.specs.Inner.{Forms}
 use Rattle.dc_code.specs.Machine.{bound, new_frame}
 use Rattle.dc_tree.specs.declared.symbols.Symbol.{Symbol}
 use Rattle.dc_tree.specs.Blocks.{item, items_from}
-use Rattle.dc_tree.specs.BuiltPrograms.{are_built_symbols}
+use Rattle.dc_form.specs.BuiltPrograms.{are_built_symbols}
 use Rattle.dc_entities.specs.Numbering.{numbers_of}
 use Rattle.dc_lower.specs.Today.{is_of_today}
 use Rattle.dc_meaning.specs.Programs.{first_store}

@@ -9,7 +9,7 @@ ghost use Rattle.dc_code.specs.Loops.{Loop};
 ghost use Rattle.dc_tree.specs.declared.symbols.Symbol.{Symbol};
 ghost use Rattle.dc_tree.specs.Blocks.{items, line_of, source_of};
 ghost use Rattle.dc_entities.specs.Numbering.{numbers_of};
-ghost use Rattle.dc_tree.specs.BuiltPrograms.{are_built_symbols};
+ghost use Rattle.dc_form.specs.BuiltPrograms.{are_built_symbols};
 ghost use Rattle.dc_run.specs.declared.ending.Ending.{Ending};
 ghost use Rattle.dc_run.specs.declared.standing.Step.{Step};
 ghost use Rattle.dc_run.specs.Answered.{IsRunOf, NamesOwn};

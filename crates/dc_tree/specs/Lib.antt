@@ -1,6 +1,5 @@
 pub mod Back
 pub mod Blocks
-pub mod BuiltPrograms
 pub mod Entities
 pub mod Findings
 pub mod Grammar

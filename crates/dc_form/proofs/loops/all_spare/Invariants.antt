@@ -1,6 +1,6 @@
 use Rattle.std.proofs.Common.{◌≡◌, map, drop}
 use Rattle.dc_tree.specs.Blocks.{item, items_from}
-use Rattle.dc_tree.specs.BuiltPrograms.{all_spare}
+use Rattle.dc_form.specs.BuiltPrograms.{all_spare}
 use Rattle.dc_form.proofs.loops.all_spare.Given as goal
 
 abbrev pub invariant-loop-node : goal.invariant-loop-node

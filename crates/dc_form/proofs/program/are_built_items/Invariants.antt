@@ -1,6 +1,6 @@
 use Rattle.std.proofs.Common.{◌≡◌, map, drop}
 use Rattle.dc_tree.specs.Blocks.{item, items_from}
-use Rattle.dc_tree.specs.BuiltPrograms.{are_built_items}
+use Rattle.dc_form.specs.BuiltPrograms.{are_built_items}
 use Rattle.dc_tree.specs.Entities.{main_scope}
 use Rattle.dc_form.proofs.program.are_built_items.Given as goal
 

@@ -1,6 +1,6 @@
 use Rattle.std.proofs.Common.{◌≡◌, drop}
 use Rattle.std.specs.List.{list_all}
-use Rattle.dc_tree.specs.BuiltPrograms.{is_built_symbol}
+use Rattle.dc_form.specs.BuiltPrograms.{is_built_symbol}
 use Rattle.dc_form.proofs.symbols.all_built.Given as goal
 
 abbrev pub invariant-loop-symbol : goal.invariant-loop-symbol

@@ -1,5 +1,5 @@
 use Rattle.std.proofs.Common.{◌≡◌, ◌+◌, ◌≤◌, drop}
-use Rattle.dc_tree.specs.BuiltPrograms.{elements_of_all}
+use Rattle.dc_form.specs.BuiltPrograms.{elements_of_all}
 use Rattle.dc_form.specs.Capped.{capped}
 use Rattle.dc_form.proofs.symbols.elements_of_all.Given as goal
 

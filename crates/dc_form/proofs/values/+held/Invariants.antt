@@ -1,5 +1,5 @@
 use Rattle.std.proofs.Common.{◌≡◌, map, drop}
-use Rattle.dc_tree.specs.BuiltPrograms.{are_held}
+use Rattle.dc_form.specs.BuiltPrograms.{are_held}
 use Rattle.dc_tree.specs.Syntax.{arg_tree, args_from}
 use Rattle.dc_form.proofs.values.+held.Given as goal
 

@@ -1,5 +1,5 @@
 use Rattle.std.proofs.Common.{◌≡◌, map, drop}
-use Rattle.dc_tree.specs.BuiltPrograms.{some_mentions}
+use Rattle.dc_form.specs.BuiltPrograms.{some_mentions}
 use Rattle.dc_tree.specs.Syntax.{arg_tree, args_from}
 use Rattle.dc_form.proofs.values.+mentioned.Given as goal
 

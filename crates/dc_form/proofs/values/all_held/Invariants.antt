@@ -1,6 +1,6 @@
 use Rattle.std.proofs.Common.{◌≡◌, map, drop}
 use Rattle.std.specs.List.{list_all}
-use Rattle.dc_tree.specs.BuiltPrograms.{is_held}
+use Rattle.dc_form.specs.BuiltPrograms.{is_held}
 use Rattle.dc_tree.specs.Syntax.{tree}
 use Rattle.dc_form.proofs.values.all_held.Given as goal
 

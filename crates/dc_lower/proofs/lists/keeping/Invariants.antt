@@ -1,7 +1,7 @@
 -- What is added so far and what the rest adds is all together.
 use Rattle.std.proofs.Common.{◌≡◌, ◌++◌, drop, map, IsTrue}
 use Rattle.std.specs.List.{list_all}
-use Rattle.dc_tree.specs.BuiltPrograms.{is_held}
+use Rattle.dc_form.specs.BuiltPrograms.{is_held}
 use Rattle.dc_tree.specs.Syntax.{tree}
 use Rattle.dc_sorts.specs.Forms.{sort_of_form}
 use Rattle.dc_lower.specs.Assigning.{keeping_code}

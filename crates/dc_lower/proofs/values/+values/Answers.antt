@@ -3,7 +3,7 @@ use Rattle.std.proofs.Common.{◌≡◌, ◌+◌, ◌<◌, List, [], ◌∷◌, 
 use Rattle.dc_code.specs.declared.instr.What.{What}
 use Rattle.dc_tree.specs.declared.expr.Arg.{Arg, out-Arg}
 use Rattle.dc_tree.specs.declared.expr.Expr.{the_lemmas}
-use Rattle.dc_tree.specs.BuiltPrograms.{is_held}
+use Rattle.dc_form.specs.BuiltPrograms.{is_held}
 use Rattle.dc_tree.specs.Syntax.{Tree, arg_tree, args_from, tree}
 use Rattle.dc_sorts.specs.declared.known.Known.{Known}
 use Rattle.dc_sorts.specs.Functions.{function_of}

@@ -1,6 +1,6 @@
 -- What is added so far and what the rest adds is all together.
 use Rattle.std.proofs.Common.{◌≡◌, ◌++◌, drop, map, IsTrue}
-use Rattle.dc_tree.specs.BuiltPrograms.{are_held}
+use Rattle.dc_form.specs.BuiltPrograms.{are_held}
 use Rattle.dc_tree.specs.Syntax.{arg_tree, args_from}
 use Rattle.dc_sorts.specs.Knowing.{known_args}
 use Rattle.dc_lower.specs.Expressions.{values_code, further_code}

@@ -1,7 +1,7 @@
 use Rattle.std.proofs.Common.{◌≡◌, ◌+◌, ◌≤◌, ◌&&◌, true, List, ◌∷◌, [], drop, ap, ap₂, subst, ◌∙◌}
 use Rattle.std.specs.List.{list_all}
 use Rattle.dc_tree.specs.declared.symbols.Symbol.{Symbol}
-use Rattle.dc_tree.specs.BuiltPrograms.{is_built_symbol, elements_of_all}
+use Rattle.dc_form.specs.BuiltPrograms.{is_built_symbol, elements_of_all}
 use Rattle.dc_meaning.proofs.Gathering.{next-is}
 use Rattle.dc_lower.specs.Lowerable.{are_held_symbols}
 use Rattle.dc_lower.specs.Variables.{shapes_of, bounds_of_all}

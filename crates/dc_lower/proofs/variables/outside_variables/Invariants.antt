@@ -1,7 +1,7 @@
 -- What is declared so far and by the rest is all together.
 use Rattle.std.proofs.Common.{◌≡◌, ◌≤◌, ◌++◌, drop, IsTrue}
 use Rattle.std.specs.List.{list_all}
-use Rattle.dc_tree.specs.BuiltPrograms.{is_built_symbol, elements_of_all}
+use Rattle.dc_form.specs.BuiltPrograms.{is_built_symbol, elements_of_all}
 use Rattle.dc_lower.specs.Lowerable.{are_held_symbols}
 use Rattle.dc_lower.specs.Variables.{shapes_of, bounds_of_all}
 use Rattle.dc_lower.proofs.variables.outside_variables.Given as goal

@@ -2,7 +2,7 @@ use Rattle.std.proofs.Common.{drop, map, ℕ, IsTrue}
 use Rattle.std.specs.Prelude.{Result}
 use Rattle.dc_plain.specs.Views.{View}
 use Rattle.dc_tree.specs.Blocks.{item, items_from}
-use Rattle.dc_tree.specs.BuiltPrograms.{is_built_block}
+use Rattle.dc_form.specs.BuiltPrograms.{is_built_block}
 use Rattle.dc_meaning.specs.declared.stop.Stop.{Stop}
 use Rattle.dc_meaning.specs.Execution.{exec_all}
 use Rattle.dc_meaning.specs.WalkScope.{scope_of, own_of, index_names, all_spared}

@@ -1,7 +1,7 @@
 use Rattle.std.proofs.Common.{drop, map, List, IsTrue}
 use Rattle.std.specs.Prelude.{Result, ℤ}
 use Rattle.dc_plain.specs.Views.{View}
-use Rattle.dc_tree.specs.BuiltPrograms.{are_held}
+use Rattle.dc_form.specs.BuiltPrograms.{are_held}
 use Rattle.dc_tree.specs.Syntax.{arg_tree, args_from}
 use Rattle.dc_meaning.specs.declared.stop.Stop.{Stop}
 use Rattle.dc_meaning.specs.Gathering.{gathered}

@@ -2,7 +2,7 @@ use Rattle.std.proofs.Common.{drop, map, List, IsTrue}
 use Rattle.std.specs.Prelude.{Result, ℤ}
 use Rattle.std.specs.List.{list_all}
 use Rattle.dc_plain.specs.Views.{View}
-use Rattle.dc_tree.specs.BuiltPrograms.{is_held}
+use Rattle.dc_form.specs.BuiltPrograms.{is_held}
 use Rattle.dc_tree.specs.Syntax.{tree}
 use Rattle.dc_meaning.specs.declared.stop.Stop.{Stop}
 use Rattle.dc_meaning.specs.Gathering.{gathered}

@@ -1,6 +1,6 @@
 use Rattle.std.proofs.Common.{◌≡◌, ◌≤◌, ◌++◌, drop, map, IsTrue}
 use Rattle.std.specs.List.{list_all}
-use Rattle.dc_tree.specs.BuiltPrograms.{is_built_symbol, elements_of_all}
+use Rattle.dc_form.specs.BuiltPrograms.{is_built_symbol, elements_of_all}
 use Rattle.dc_plain.specs.FirstStores.{first_store}
 use Rattle.dc_plain.specs.Views.{variable_of}
 use Rattle.dc_plain.proofs.beginning.initial_variables.Given as goal

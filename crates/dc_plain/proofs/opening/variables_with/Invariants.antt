@@ -1,5 +1,5 @@
 use Rattle.std.proofs.Common.{◌≡◌, ◌≤◌, ◌++◌, drop, map}
-use Rattle.dc_tree.specs.BuiltPrograms.{elements_of_all}
+use Rattle.dc_form.specs.BuiltPrograms.{elements_of_all}
 use Rattle.dc_plain.specs.Views.{variable_of, store_with}
 use Rattle.dc_plain.proofs.opening.variables_with.Given as goal
 

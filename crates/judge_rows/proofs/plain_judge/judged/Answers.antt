@@ -1,6 +1,6 @@
 use Rattle.std.proofs.Common.{◌≡◌, refl, sym, ◌∙◌, arith, rules, true}
 use Rattle.dc_tree.specs.Blocks.{source_of}
-use Rattle.dc_tree.specs.BuiltPrograms.{is_built}
+use Rattle.dc_form.specs.BuiltPrograms.{is_built}
 use Rattle.judge_rows.proofs.plain_judge.judged.Goals as goal
 
 pub plain_verdict-requires : goal.plain_verdict-requires

@@ -3,7 +3,7 @@ use Rattle.std.proofs.lemmas.Bool.{and_parts}
 use Rattle.std.proofs.lemmas.List.{drop_all}
 use Rattle.dc_tree.specs.declared.program.Node.{Node}
 use Rattle.dc_tree.specs.Blocks.{Items, item, items_from}
-use Rattle.dc_tree.specs.BuiltPrograms.{is_built_item, are_built_items}
+use Rattle.dc_form.specs.BuiltPrograms.{is_built_item, are_built_items}
 use Rattle.dc_tree.specs.Entities.{main_scope}
 use Rattle.dc_lower.specs.Wholes.{AddsLoops, loops_behind, inside_has_code, insides_have_code}
 use Rattle.dc_lower.proofs.LoweredLoops.{adds-next, adds-none, items-next}

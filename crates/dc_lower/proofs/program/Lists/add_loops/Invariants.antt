@@ -1,7 +1,7 @@
 -- What is added with the rest behind is all together.
 use Rattle.std.proofs.Common.{◌≡◌, drop, length, map, IsTrue}
 use Rattle.dc_tree.specs.Blocks.{item, items_from}
-use Rattle.dc_tree.specs.BuiltPrograms.{are_built_items}
+use Rattle.dc_form.specs.BuiltPrograms.{are_built_items}
 use Rattle.dc_tree.specs.Entities.{main_scope}
 use Rattle.dc_lower.specs.declared.program.Lists.{Lists}
 use Rattle.dc_lower.specs.Variables.{shapes_of}
