@@ -15,7 +15,7 @@ use Rattle.dc_tree.specs.Operating.{is_equal}
 use Rattle.dc_tree.specs.Statements as statements
 use Rattle.dc_tree.specs.Statements.{Name, Ranging, CaseRange, Statement}
 use Rattle.dc_tree.specs.Syntax.{Tree}
-use Rattle.dc_tree.specs.Typing.{sort_of_entity, constant_value}
+use Rattle.dc_tree.specs.Typing.{sort_of, sort_of_entity, constant_value}
 use Rattle.dc_meaning.specs.Acts.{Act, ◌>>=◌, just, wrong, spend, innermost, store, refer_to}
 use Rattle.dc_meaning.specs.Actions.{Flow, on, returns, cycles, exits, ◌>>◌, act}
 use Rattle.dc_meaning.specs.Places.{element_at}
@@ -143,11 +143,12 @@ plain_line scope call line = by line.says
     by (statements.if_action test deed) = value scope call line.line test >>= (λ z. if truth z then act scope call line.line deed else just on)
     by other = just on
 
+-- The selector, in its sort.
 abbrev pub selector_of : Scope → Callee → Line → Act ℤ
 selector_of scope call head = by head.says
   where
     by : Statement → Act ℤ
-    by (statements.select_case tree) = value scope call head.line tree
+    by (statements.select_case tree) = value scope call head.line tree >>= (λ z. just (fitted (sort_of scope tree) z))
     by other = just (pos 0)
 
 -- What follows a statement.
