@@ -12,7 +12,7 @@ use Rattle.dc_code.specs.Machine.{machine, new_frame}
 use Rattle.dc_tree.specs.declared.symbols.Symbol.{Symbol}
 use Rattle.dc_tree.specs.Blocks.{Line, Items, Source}
 use Rattle.dc_tree.specs.Entities.{entity, main_scope}
-use Rattle.dc_meaning.specs.Alone.{nth_loop, index_name}
+use Rattle.dc_meaning.specs.Looping.{nth_loop, index_name}
 use Rattle.dc_meaning.specs.Concurrent.{Concurrent, Surroundings, block_scope, fresh_locals}
 use Rattle.dc_meaning.specs.Execution.{exec_all}
 use Rattle.dc_meaning.specs.Headers.{inside_frame, form_of}
@@ -20,8 +20,8 @@ use Rattle.dc_meaning.specs.Numbering.{no_loop}
 use Rattle.dc_meaning.specs.Programs.{surroundings, program_loops, program_forms}
 use Rattle.dc_meaning.specs.WalkScope.{index_scope}
 use Rattle.dc_meaning.proofs.Looping.{concurrent-with, LoopAt, IsLoop, scope-is, copies-form, combines-form}
-use Rattle.dc_meaning.proofs.Passing.{loops-in, loop-at, found-at, form-is}
-use Rattle.dc_meaning.proofs.Visitable as visitable
+use Rattle.dc_meaning.proofs.ProgramLoops.{loops-in, loop-at, found-at, form-is}
+use Rattle.dc_walk.proofs.Visitable as visitable
 use Rattle.dc_lower.specs.Agreeing.{SameForm, HasNoIteration}
 use Rattle.dc_lower.specs.Heading.{HasHeader}
 use Rattle.dc_lower.specs.Lowerable.{IsLowerable}
