@@ -6,6 +6,7 @@ use Rattle.std.proofs.lemmas.Bool.{false≢true}
 use Rattle.dc_int.specs.declared.kind.Kind.{Kind}
 use Rattle.dc_int.specs.Kinds.{is_of_kind}
 use Rattle.dc_int.specs.Sorts.{Sort, whole, logical}
+use Rattle.dc_code.specs.declared.instr.Instr.{Instr}
 use Rattle.dc_code.specs.declared.instr.What.{What}
 use Rattle.dc_code.specs.StackSorts as items
 use Rattle.dc_code.specs.StackSorts.{Sorts, if_there}
@@ -98,6 +99,9 @@ deed-runs ground scope fits holds changeable true free_to next free (print writt
     printing-runs ground scope fits (free_to refl).0 next trees below texts so typed
 deed-runs ground scope fits holds changeable false free_to next free (print written trees) below texts groups so typed may = absurd (false≢true may)
 deed-runs ground scope fits holds changeable main free_to next free deed below texts groups so typed may = absurd (false≢true so)
+
+abbrev pub whats_of : List Instr → List What
+whats_of instrs = map (λ (instr : Instr). instr.what) instrs
 
 pub whats-lined : (line : ℕ) (whats : List What) → whats_of (lined line whats) ≡ whats
 whats-lined line [] = refl

@@ -38,8 +38,6 @@ use Rattle.dc_actions.proofs.OutputLaws.{texts-left, texts-right}
 use Rattle.std.proofs.lemmas.List.{length-append}
 use Rattle.dc_actions.proofs.DeedLaws.{length-lined, Stands, deed-law}
 
--- ---- where instructions stand
-
 -- ---- statements
 
 says-law : (code : CodeLists) (go : Going) (goes : GoesAs code go) (scope : Scope) (call : Callee) (at next free : ℕ) (frame : Frame) (state : State) (line : Line)

@@ -21,7 +21,7 @@ use Rattle.dc_tree.specs.Typing.{sort_of_entity}
 use Rattle.dc_meaning.specs.Concurrent.{Outside, Concurrent, Surroundings, locality_of}
 use Rattle.dc_meaning.specs.Execution.{loops_in_all}
 use Rattle.dc_meaning.specs.Programs.{outsides_from, surroundings, program_loops}
-use Rattle.dc_meaning.proofs.Passing.{built-source}
+use Rattle.dc_meaning.proofs.ProgramLoops.{built-source}
 use Rattle.dc_actions.specs.Assigning.{kept_group, all_usable, takes_list}
 use Rattle.dc_actions.specs.Deeds.{groups_of_deed, deed_is_lowered}
 use Rattle.dc_lower.specs.Blocks.{groups_of_says, groups_of_block, says_is_lowered, item_is_lowered, block_is_lowered}

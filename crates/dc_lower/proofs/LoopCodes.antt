@@ -25,7 +25,7 @@ use Rattle.dc_tree.specs.Blocks.{Line, Items, Source}
 use Rattle.dc_tree.specs.Entities.{slots, Scope, entity, main_scope}
 use Rattle.dc_tree.specs.Statements.{Name, Ranging}
 use Rattle.dc_tree.specs.Typing.{sort_of_entity}
-use Rattle.dc_meaning.specs.Alone.{nth_loop, index_name}
+use Rattle.dc_meaning.specs.Looping.{nth_loop, index_name}
 use Rattle.dc_meaning.specs.Concurrent.{Concurrent, Surroundings, block_scope, index_sort}
 use Rattle.dc_meaning.specs.Acts.{for_each}
 use Rattle.dc_meaning.specs.Execution.{span_of, exec_all}
@@ -35,7 +35,7 @@ use Rattle.dc_meaning.specs.Values.{Callee}
 use Rattle.dc_meaning.specs.WalkScope.{index_scope}
 use Rattle.dc_meaning.proofs.Looping.{concurrent-with, LoopAt, whole-sort, scope-is}
 use Rattle.dc_meaning.proofs.OwnScopes.{inner-good}
-use Rattle.dc_meaning.proofs.Passing.{loops-in, loop-at}
+use Rattle.dc_meaning.proofs.ProgramLoops.{loops-in, loop-at}
 use Rattle.dc_actions.specs.Deeds.{InstrsStand, lined}
 use Rattle.dc_lower.specs.Blocks.{texts_of_block, groups_of_block, block_is_lowered, part_code, block_is_typed}
 use Rattle.dc_lower.specs.Carrying.{inside}

@@ -16,9 +16,8 @@ use Rattle.dc_tree.specs.Entities.{Scope, main_scope, with_names}
 use Rattle.dc_tree.specs.Statements.{Name, Ranging, Statement}
 use Rattle.dc_sorts.specs.declared.standing.IndexName.{IndexName}
 use Rattle.dc_sorts.specs.Standing.{index_entity}
-use Rattle.dc_meaning.specs.Alone.{index_name}
+use Rattle.dc_meaning.specs.Looping.{index_name, first_index}
 use Rattle.dc_meaning.specs.Concurrent.{Outside, Concurrent, Surroundings, locality_of, block_scope}
-use Rattle.dc_meaning.specs.Visiting.{first_index}
 use Rattle.dc_meaning.specs.WalkScope.{kind_of_index, index_scope}
 use Rattle.dc_meaning.proofs.Gathering.{next-is}
 use Rattle.dc_meaning.proofs.Looping.{BuiltLoop, concurrent-with, one-loop, scope-is}

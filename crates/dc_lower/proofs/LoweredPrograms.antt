@@ -12,7 +12,7 @@ use Rattle.dc_tree.specs.Blocks.{Line, Items, Subprogram, Source, plain, branch,
 use Rattle.dc_form.specs.BuiltPrograms.{is_built, are_built_symbols, is_built_deed, is_built_inside, is_built_line, is_built_block, is_built_loop, are_built_items}
 use Rattle.dc_tree.specs.Entities.{Scope, entity, main_scope}
 use Rattle.dc_tree.specs.Statements.{Deed, assign, fill, print, Statement, act}
-use Rattle.dc_meaning.specs.Alone.{index_name}
+use Rattle.dc_meaning.specs.Looping.{index_name}
 use Rattle.dc_meaning.specs.Concurrent.{Concurrent, Surroundings, block_scope}
 use Rattle.dc_meaning.specs.Execution.{loops_in}
 use Rattle.dc_meaning.specs.Numbering.{loops_of_all}

@@ -22,7 +22,7 @@ use Rattle.dc_tree.specs.Statements.{Name}
 use Rattle.dc_meaning.specs.Acts.{State}
 use Rattle.dc_meaning.specs.Execution.{exec_all}
 use Rattle.dc_meaning.specs.Programs.{outsides_from, surroundings, main_computation}
-use Rattle.dc_meaning.proofs.Passing.{built-source}
+use Rattle.dc_meaning.proofs.ProgramLoops.{built-source}
 use Rattle.dc_actions.specs.Deeds.{InstrsStand}
 use Rattle.dc_lower.specs.Blocks.{groups_of_block}
 use Rattle.dc_lower.specs.Carrying.{inside}

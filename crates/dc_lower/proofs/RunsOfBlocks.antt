@@ -1,4 +1,4 @@
--- The instructions of output, of blocks and of limits.
+-- The instructions of blocks.
 use Rattle.std.proofs.Common.{◌≡◌, ◌≤◌, ◌<◌, ℕ, ◌+◌, Bool, true, false, cond, List, [], ◌∷◌, ◌++◌, length, map, refl, sym, subst, arith}
 use Rattle.std.proofs.lemmas.List.{map-append}
 use Rattle.std.specs.Prelude.{slice_get}
@@ -19,9 +19,7 @@ use Rattle.dc_actions.proofs.Straight.{Ground, Runs, runs-step, runs-both}
 use Rattle.dc_actions.proofs.RunsOfNames.{Fits}
 use Rattle.dc_actions.proofs.RunsOfStatements.{Changes, HoldsNames}
 use Rattle.dc_actions.proofs.Standing.{Stand, first-stand, second-stand, found-within}
-use Rattle.dc_actions.proofs.RunsOfDeeds.{there-runs, may_do, IsOpen, deed-runs, whats-lined}
-
--- ---- output
+use Rattle.dc_actions.proofs.RunsOfDeeds.{whats_of, there-runs, may_do, IsOpen, deed-runs, whats-lined}
 
 -- ---- statements
 
@@ -45,9 +43,6 @@ says-runs ground scope fits holds changeable main free_to next free line (act de
 says-runs ground scope fits holds changeable main free_to next free line says below texts groups so typed may = absurd (false≢true so)
 
 -- ---- blocks
-
-abbrev pub whats_of : List Instr → List What
-whats_of instrs = map (λ (instr : Instr). instr.what) instrs
 
 typed-first : (scope : Scope) (line : Line) (rest : Items) → block_is_typed scope (and_then (plain line) rest) ≡ true → (says_is_typed scope line.says ≡ true) × (block_is_typed scope rest ≡ true)
 typed-first scope line rest typed = both-true typed
@@ -88,4 +83,3 @@ block-runs ground scope fits holds changeable true free_to next free number (and
 block-runs ground scope fits holds changeable false free_to next free number (and_then (loop head inside close) rest) below texts groups few so typed may = absurd (false≢true so)
 block-runs ground scope fits holds changeable main free_to next free number (and_then other rest) below texts groups few so typed may = absurd (false≢true so)
 
--- ---- limits

@@ -14,8 +14,6 @@ use Rattle.dc_tree.specs.declared.symbols.Role as roles
 use Rattle.dc_lower.specs.Blocks.{block_is_lowered, block_is_typed}
 use Rattle.dc_actions.specs.Typed.{deed_is_typed}
 
--- ---- single statements, where so many texts stand before, and so many groups of slots are taken
-
 -- ---- blocks. Before an item there are so many texts, so many groups are taken, and there are so many loops.
 
 abbrev pub says_code : Scope → (next free : ℕ) → Statement → List What

@@ -26,7 +26,7 @@ ghost use Rattle.dc_form.specs.BuiltPrograms.{
 };
 ghost use Rattle.dc_tree.specs.Entities.{main_scope, with_names};
 ghost use Rattle.dc_tree.specs.Statements.{statement};
-ghost use Rattle.dc_meaning.specs.Alone.{index_name};
+ghost use Rattle.dc_meaning.specs.Looping.{index_name};
 ghost use Rattle.dc_meaning.specs.WalkScope.{index_scope};
 ghost use Rattle.dc_lower.specs.Held.{block_has_code};
 ghost use Rattle.dc_lower.specs.Lowerable.{IsLowerable, are_held_symbols};
