@@ -1,15 +1,17 @@
 //! A program whose loop is opened and iterated by hand.
 
-ghost use Rattle.std.specs.Prelude.{OnOk};
+ghost use Rattle.std.specs.Prelude.{◌≡◌, slice_get, OnOk};
 ghost use Rattle.machine_rows.specs.Ready.{IsReady};
 
 use crate::calls::{TURNS, go, small_store};
 use dc_code::{Code, What};
-use dc_int::ElementId;
+use dc_front::{Accepted, accept};
+use dc_int::{ElementId, Shape};
 use dc_lists::put_value;
-use dc_steps::elements_of;
+use dc_lower::lower;
 use dc_store::{Cells, WholeStore};
 use dc_text::{DcText, NoMemory};
+use dc_tree::Fail as Refused;
 use dc_vm::{Ended, Frame};
 use std::alloc::Global;
 use std::test::Fail;
@@ -20,6 +22,20 @@ const SQUARES: &[u8] =
 const INDEXES: [i64; 4] = [1, 2, 3, 4];
 
 const DONE: Ended = Ended::Done { turns: TURNS };
+
+fn lowered(alloc: Global, accepted: &Accepted) -> Result<Code, NoMemory> {
+    let symbols = accepted.symbols();
+    // The slice is taken for what it says of the names: each value that is declared is of its sort.
+    let _sound = symbols.as_slice();
+    lower(alloc, accepted.program(), symbols)
+}
+
+/// The code of the source.
+fn code_of(alloc: Global) -> Result<Code, Refused> {
+    let accepted = accept(alloc, SQUARES)?;
+    let code = lowered(alloc, &accepted)?;
+    Ok(code)
+}
 
 /// The first and the last value of an index and its step, as a header leaves them.
 fn limits(
@@ -78,19 +94,28 @@ fn iterate_all(
     Ok(true)
 }
 
+fn first_shape(code: &Code) -> Option<Shape>
+    ensures { result ≡ slice_get (code.now).shapes 0 }
+{
+    code.shapes().first().copied()
+}
+
 /// What the elements of the first variable write, one after the other.
 fn written(alloc: Global, code: &Code, cells: &mut WholeStore<'_>) -> Result<DcText, NoMemory>
     requires { IsReady code.now cells.old }
     ensures { OnOk result (IsReady code.now cells.new) }
 {
     let mut line = DcText::new(alloc);
-    for position in 0..elements_of(code, 0) {
+    let Some(shape) = first_shape(code) else {
+        return Ok(line);
+    };
+    for position in 0..shape.elements {
         let element = ElementId {
             variable: 0,
             position,
         };
         if let Some(value) = cells.get(alloc, element, 6)? {
-            put_value(&mut line, position == 0, false, value)?;
+            put_value(&mut line, position == 0, shape.logical, value)?;
         }
     }
     Ok(line)
@@ -135,5 +160,32 @@ fn run_by_hand(
     })
 }
 
+/// `None` is a code that isn't small or has no loop.
+fn squares(alloc: Global) -> Result<Option<Seen>, Fail> {
+    let code = code_of(alloc)?;
+    let Some(mut store) = small_store(alloc, &code)? else {
+        return Ok(None);
+    };
+    let mut cells = WholeStore::new(&mut store);
+    let Some(construct) = code.constructs().first() else {
+        return Ok(None);
+    };
+    let seen = run_by_hand(alloc, &code, construct.header, construct.body, &mut cells)?;
+    Ok(Some(seen))
+}
+
 #[test]
-fn nothing(rt: HostRuntime) -> Result<(), Fail> { Ok(()) }
+fn squares_by_hand(rt: HostRuntime) -> Result<(), Fail> {
+    let seen = squares(rt.alloc())?;
+    assert!(rt; seen.is_some());
+    if let Some(seen) = seen {
+        assert_eq!(rt; seen.entered, Ended::Paused { at: 0, turns: TURNS });
+        assert_eq!(rt; seen.entering, Some(What::Enter { c: 0 }));
+        assert_eq!(rt; seen.limits, Some((1, 4, 1)));
+        assert!(rt; seen.iterated);
+        assert_eq!(rt; seen.elements.as_bytes(), b"1 4 9 16".as_slice());
+        assert_eq!(rt; seen.put, Ended::Paused { at: 2, turns: TURNS });
+        assert_eq!(rt; seen.line.as_bytes(), b"1 4 9 16\n".as_slice());
+    }
+    Ok(())
+}
