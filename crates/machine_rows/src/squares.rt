@@ -19,6 +19,12 @@ use std::test::Fail;
 const SQUARES: &[u8] =
     b"program p\ninteger :: a(4), i\ndo concurrent (i = 1:4)\n  a(i) = i*i\nend do\nprint *, a\nend program p\n";
 
+/// The line of its last statement but one.
+const PRINTED: u32 = 6;
+
+/// The place of the instruction behind that of the loop, which is the first.
+const BEHIND_LOOP: u32 = 1;
+
 const INDEXES: [i64; 4] = [1, 2, 3, 4];
 
 const DONE: Ended = Ended::Done { turns: TURNS };
@@ -114,7 +120,7 @@ fn written(alloc: Global, code: &Code, cells: &mut WholeStore<'_>) -> Result<DcT
             variable: 0,
             position,
         };
-        if let Some(value) = cells.get(alloc, element, 6)? {
+        if let Some(value) = cells.get(alloc, element, PRINTED)? {
             put_value(&mut line, position == 0, shape.logical, value)?;
         }
     }
@@ -148,7 +154,7 @@ fn run_by_hand(
     let limits = limits(alloc, code, header, cells)?;
     let iterated = iterate_all(alloc, code, body, cells)?;
     let elements = written(alloc, code, cells)?;
-    let put = go(alloc, code, 1, &mut frame, cells)?;
+    let put = go(alloc, code, BEHIND_LOOP, &mut frame, cells)?;
     Ok(Seen {
         entered,
         entering: code.instructions().first().map(|instr| instr.what),
