@@ -90,7 +90,7 @@ fill-law code go goes scope call line at frame state variable sort bounds z is s
     ∙ sym (sequence-then (acts.for_each (λ place. acts.store line place (fitted sort z)) (map (outer_place_of variable) (range_with_len 0 (elements_in bounds))) state) (λ v. give (on, v.1)) K)
     ∙ ap (λ c. sequence (sequence c (λ w. sequence (acts.for_each (λ place. acts.store line place (fitted sort z)) w.0 w.1) (λ v. give (on, v.1)))) K) (sym (outer-places line variable sort bounds 0 (elements_in bounds) state))
 
-store-law : (code : CodeLists) (go : Going) (goes : GoesAs code go) (line at : ℕ) (frame : Frame) (state : State) (variable : ℕ) (sort : Sort) (bounds : Bounds) (z : ℤ) (zs : List ℤ)
+pub store-law : (code : CodeLists) (go : Going) (goes : GoesAs code go) (line at : ℕ) (frame : Frame) (state : State) (variable : ℕ) (sort : Sort) (bounds : Bounds) (z : ℤ) (zs : List ℤ)
     → IsOutside code variable sort bounds → length zs ≡ length bounds → StandAt code line at (What.Subscript variable ∷ What.Store variable ∷ [])
     → (K : Flow × State → Computing (Frame × ℕ)) → go (at + 2) frame state.turns ≡ K (on, state)
     → go at (all_pushed zs (pushed (Item.Value z) frame)) state.turns

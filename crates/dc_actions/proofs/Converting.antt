@@ -21,7 +21,7 @@ use Rattle.dc_actions.proofs.Placing.{stepped}
 wrapped-twice : (its_kind : Kind) (z : ℤ) → wrapped its_kind (wrapped its_kind z) ≡ wrapped its_kind z
 wrapped-twice its_kind z = int_wrap_fits (width its_kind) (wrapped its_kind z) (in_range_fits its_kind (wrapped its_kind z) (wrapped_in_range its_kind z))
 
-truth-back : (b : Bool) → truth (number_of_truth b) ≡ b
+pub truth-back : (b : Bool) → truth (number_of_truth b) ≡ b
 truth-back true = refl
 truth-back false = refl
 

@@ -65,7 +65,7 @@ place-law code go goes line at frame turns group before sort count planned withi
     counted : Frame
     counted = pushed (Item.Value (pos (suc before))) frame
 
-slot-sort : (code : CodeLists) (frame : Frame) (group at : ℕ) → at < length (group_slots frame group) → slot_sort code frame (level frame) group ≡ group_sort (group_planned code frame group)
+pub slot-sort : (code : CodeLists) (frame : Frame) (group at : ℕ) → at < length (group_slots frame group) → slot_sort code frame (level frame) group ≡ group_sort (group_planned code frame group)
 slot-sort code frame group at within = let there = unit-there frame group at within in rw there.1 refl
 
 keep-law : (code : CodeLists) (go : Going) (goes : GoesAs code go) (line at : ℕ) (frame : Frame) (turns group before : ℕ) (sort : Sort) (count : ℕ) (z : ℤ)
@@ -77,7 +77,7 @@ keep-law code go goes line at frame turns group before sort count z planned with
     (slot-sort code frame group before within ∙ ap group_sort planned ∙ kept-sort sort count)
     ∙ ap (λ place. go place (put_slot group before (Some (fitted sort z)) frame) turns) (plus-one at)
 
-load-law : (code : CodeLists) (go : Going) (goes : GoesAs code go) (line at : ℕ) (frame : Frame) (turns group before : ℕ) (z : ℤ)
+pub load-law : (code : CodeLists) (go : Going) (goes : GoesAs code go) (line at : ℕ) (frame : Frame) (turns group before : ℕ) (z : ℤ)
     → slot_of frame.units (level frame) group before ≡ Some z → StandAt code line at (What.LoadSlot group ∷ [])
     → go at (pushed (Item.Position before) frame) turns ≡ go (at + 1) (pushed (Item.Value z) frame) turns
 load-law code go goes line at frame turns group before z held stand =
@@ -97,7 +97,7 @@ kept-alike group before sort [] frame = same-alike group frame
 kept-alike group before sort (z ∷ zs) frame =
     alike-then (put-alike group group before (Some (fitted sort z)) frame (omega arith)) (kept-alike group (suc before) sort zs (put_slot group before (Some (fitted sort z)) frame))
 
-abbrev held_at : Frame → ℕ → ℕ → Option ℤ
+abbrev pub held_at : Frame → ℕ → ℕ → Option ℤ
 held_at frame group position = slot_of frame.units (level frame) group position
 
 kept-before : (group before : ℕ) (sort : Sort) (zs : List ℤ) (frame : Frame) (position : ℕ) → position < before

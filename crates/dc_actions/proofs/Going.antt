@@ -43,13 +43,13 @@ machine-goes code = record { each = λ at line what frame turns here behind. mac
 
 -- ---- what is left of a run
 
-abbrev after : Going → (Frame × ℕ → Computing (Frame × ℕ)) → Going
+abbrev pub after : Going → (Frame × ℕ → Computing (Frame × ℕ)) → Going
 after go left at frame turns = sequence (go at frame turns) left
 
 behind-then : (go : Going) (left : Frame × ℕ → Computing (Frame × ℕ)) (at turns : ℕ) (work : Computing Frame) → sequence (behind go at turns work) left ≡ behind (after go left) at turns work
 behind-then go left at turns work = sequence-then work (λ frame. go (suc at) frame turns) left
 
-act-then : (code : CodeLists) (go : Going) (left : Frame × ℕ → Computing (Frame × ℕ)) (line : ℕ) (what : What) (at : ℕ) (frame : Frame) (turns : ℕ) → goes_behind what ≡ true
+pub act-then : (code : CodeLists) (go : Going) (left : Frame × ℕ → Computing (Frame × ℕ)) (line : ℕ) (what : What) (at : ℕ) (frame : Frame) (turns : ℕ) → goes_behind what ≡ true
     → sequence (act code go line what at frame turns) left ≡ act code (after go left) line what at frame turns
 act-then code go left line (What.Const k n) at frame turns so = refl
 act-then code go left line (What.Truth n) at frame turns so = refl

@@ -133,7 +133,7 @@ alike-then first second = record {
 pub alike-planned : {free : ℕ} {one other : Frame} (code : CodeLists) → Alike free one other → (group : ℕ) → group_planned code other group ≡ group_planned code one group
 alike-planned code alike group = ap (λ plan. slice_get (plan_numbered code plan).groups group) alike.plan
 
-alike-slot : {free : ℕ} {one other : Frame} → Alike free one other → (group position : ℕ) → group < free
+pub alike-slot : {free : ℕ} {one other : Frame} → Alike free one other → (group position : ℕ) → group < free
     → slot_of other.units (level other) group position ≡ slot_of one.units (level one) group position
 alike-slot {one = one} {other = other} alike group position below =
     slot-cell other group position ∙ ap (λ found. cell found position) (alike.slots group below) ∙ sym (slot-cell one group position)

@@ -7,7 +7,7 @@ use Rattle.dc_code.specs.Codes.{CodeLists}
 use Rattle.dc_code.specs.Computation.{give, sequence}
 use Rattle.dc_code.specs.Frames.{Frame, pushed}
 use Rattle.dc_code.specs.Machine.{machine}
-use Rattle.dc_code.specs.Troubles.{Computing}
+use Rattle.dc_code.specs.Troubles.{Computing, Slots}
 use Rattle.dc_tree.specs.Entities.{Scope}
 use Rattle.dc_meaning.specs.Actions.{Flow, on}
 use Rattle.dc_meaning.specs.Acts.{State, Act}
@@ -38,3 +38,7 @@ CarryOutKeeping code scope free groups line whats meant =
     → (rest : Flow × State → Computing ℕ)
     → ((left : Frame) → Alike free frame left → sequence (machine code (at + length whats) left state.turns) (λ w. give w.1) ≡ rest (on, state))
     → sequence (machine code at frame state.turns) (λ w. give w.1) ≡ sequence (meant state) rest
+
+-- The state of a block inside these entities, with so many turns left.
+abbrev pub inside : Slots → ℕ → State
+inside own turns = record { frames = record { slots = own; dummies = [] } ∷ []; turns = turns }

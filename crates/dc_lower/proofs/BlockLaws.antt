@@ -26,7 +26,7 @@ use Rattle.dc_meaning.specs.Execution.{exec_all, behind_item, plain_line, is_con
 use Rattle.dc_meaning.specs.Values.{Callee}
 use Rattle.dc_actions.specs.Deeds.{lined, InstrsStand}
 use Rattle.dc_lower.specs.Blocks.{says_code, texts_of_item, texts_of_block, groups_of_says, groups_of_block, block_code, says_is_lowered, block_is_lowered, part_code}
-use Rattle.dc_lower.specs.Carrying.{inside}
+use Rattle.dc_actions.specs.Carrying.{inside}
 use Rattle.dc_actions.specs.Placed.{StandAt, HaveNames, HaveKept, IsLineless, Alike}
 use Rattle.dc_actions.specs.Printing.{TextsStand}
 use Rattle.dc_actions.proofs.Kept.{same-alike, alike-names, alike-kept, alike-lineless}
@@ -36,7 +36,7 @@ use Rattle.dc_actions.proofs.Going.{GoesAs, blank_frame, leaving_turns, leaving-
 use Rattle.dc_actions.proofs.Placing.{get-left, get-right, stand-first, stepped, instrs-left, instrs-right, lined-stand}
 use Rattle.dc_actions.proofs.OutputLaws.{texts-left, texts-right}
 use Rattle.std.proofs.lemmas.List.{length-append}
-use Rattle.dc_actions.proofs.DeedLaws.{length-lined, Stands, deed-law}
+use Rattle.dc_actions.proofs.DeedLaws.{enter-law, kept-left, kept-right, length-lined, Stands, deed-law}
 
 -- ---- statements
 
@@ -78,61 +78,6 @@ says-law code go goes scope called at next free frame state line stands there st
     all (concurrent l s i m o) stands there stand so later = absurd (false≢true so)
 
 -- ---- blocks inside these entities
-
-enter-law : (code : CodeLists) (go : Going) (goes : GoesAs code go) (scope : Scope) (called : Callee) (at number : ℕ) (frame : Frame) (own : Slots) (turns : ℕ) (head : Line) (body : acts.Act Flow) → own ≡ [] → is_concurrent head.says ≡ true
-    → StandAt code head.line at (What.Enter number ∷ [])
-    → (K : Flow × State → Computing (Frame × ℕ))
-    → ((left : ℕ) → go (at + 1) frame left ≡ K (on, inside own left))
-    → go at frame turns ≡ sequence (loop_of scope called number head body (inside own turns)) K
-enter-law code go goes scope called at number frame own turns head body alone so stand K later = by head.says so
-  where
-    by : (says : Statement) → is_concurrent says ≡ true → go at frame turns ≡ sequence (loop_of scope called number (record { line = head.line; says = says }) body (inside own turns)) K
-    by (concurrent l s i m o) so =
-        stepped goes at (What.Enter number) [] frame turns stand refl
-        ∙ ap (λ slots. pause (enter_loop number turns slots) (λ told. go (suc at) frame (min (natural told) turns))) (sym alone)
-        ∙ (λ i. pause (enter_loop number turns own) (λ told. (ap (λ place. go place frame (min (natural told) turns)) (plus-one at) ∙ later (min (natural told) turns)) i))
-    by (program_line n) so = absurd (false≢true so)
-    by (use_line f m o) so = absurd (false≢true so)
-    by implicit_none so = absurd (false≢true so)
-    by (declare f a c e) so = absurd (false≢true so)
-    by contains_line so = absurd (false≢true so)
-    by (procedure_line p f n b d r) so = absurd (false≢true so)
-    by (end_line u n) so = absurd (false≢true so)
-    by (if_then t) so = absurd (false≢true so)
-    by (else_if t) so = absurd (false≢true so)
-    by else_line so = absurd (false≢true so)
-    by end_if so = absurd (false≢true so)
-    by (if_action t d) so = absurd (false≢true so)
-    by (select_case t) so = absurd (false≢true so)
-    by (case r) so = absurd (false≢true so)
-    by case_default so = absurd (false≢true so)
-    by end_select so = absurd (false≢true so)
-    by (do_line l r) so = absurd (false≢true so)
-    by (do_while l t) so = absurd (false≢true so)
-    by (end_do l) so = absurd (false≢true so)
-    by (act d) so = absurd (false≢true so)
-
--- The groups of a part, of which the first are of its first statement.
-kept-left : {code : CodeLists} {scope : Scope} {frame : Frame} {free : ℕ} (first second : List Group) → HaveKept code scope frame free (first ++ second) → HaveKept code scope frame free first
-kept-left first second kept = record {
-  planned = λ i group e. kept.planned i group (get-left first second i group e);
-  sized = λ i group e. kept.sized i group (get-left first second i group e);
-  apart = kept.apart;
-}
-
-kept-right : {code : CodeLists} {scope : Scope} {frame : Frame} (free : ℕ) (first second : List Group) → HaveKept code scope frame free (first ++ second)
-    → HaveKept code scope frame (free + length first) second
-kept-right {code} {scope} {frame} free first second kept = record {
-  planned = λ i group e. subst (λ number. group_planned code frame number ≡ Some group) (behind i) (kept.planned (length first + i) group (get-right first second i ∙ e));
-  sized = λ i group e. subst (λ number. length (group_slots frame number) ≡ elements_in group.bounds) (behind i) (kept.sized (length first + i) group (get-right first second i ∙ e));
-  apart = λ text group sort bounds e. further group (kept.apart text group sort bounds e);
-}
-  where
-    behind : (i : ℕ) → free + (length first + i) ≡ free + length first + i
-    behind i = omega arith
-
-    further : (group : ℕ) → group < free → group < free + length first
-    further group below = omega (arith, below)
 
 -- What a block needs of a frame, however many turns are left.
 record StandsAlways (code : CodeLists) (scope : Scope) (frame : Frame) (own : Slots) (free : ℕ) (groups : List Group) : Type 0 where

@@ -38,7 +38,7 @@ use Rattle.dc_meaning.proofs.OwnScopes.{inner-good}
 use Rattle.dc_meaning.proofs.ProgramLoops.{loops-in, loop-at}
 use Rattle.dc_actions.specs.Deeds.{InstrsStand, lined}
 use Rattle.dc_lower.specs.Blocks.{texts_of_block, groups_of_block, block_is_lowered, part_code, block_is_typed}
-use Rattle.dc_lower.specs.Carrying.{inside}
+use Rattle.dc_actions.specs.Carrying.{inside}
 use Rattle.dc_lower.specs.Lowerable.{IsLowerable, loop_is_lowered}
 use Rattle.dc_actions.specs.Limits.{limits_are_lowered, step_is_usable, limits_code}
 use Rattle.dc_lower.specs.Lowered.{index_group, header_code, body_code, loop_code, loops_code, construct_at, main_code, lowered}

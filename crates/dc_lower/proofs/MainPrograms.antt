@@ -25,7 +25,7 @@ use Rattle.dc_meaning.specs.Programs.{outsides_from, surroundings, main_computat
 use Rattle.dc_meaning.proofs.ProgramLoops.{built-source}
 use Rattle.dc_actions.specs.Deeds.{InstrsStand}
 use Rattle.dc_lower.specs.Blocks.{groups_of_block}
-use Rattle.dc_lower.specs.Carrying.{inside}
+use Rattle.dc_actions.specs.Carrying.{inside}
 use Rattle.dc_lower.specs.Lowerable.{IsLowerable}
 use Rattle.dc_lower.specs.Lowered.{main_code, lowered}
 use Rattle.dc_actions.specs.Placed.{HaveNames, HaveKept}

@@ -8,10 +8,6 @@ use Rattle.dc_tree.specs.Entities.{Scope}
 use Rattle.dc_tree.specs.Statements.{Statement, act}
 use Rattle.dc_meaning.specs.Execution.{is_concurrent, loops_in}
 use Rattle.dc_actions.specs.Deeds.{lined, deed_code, texts_of_deed, groups_of_deed, deed_is_lowered}
-use Rattle.dc_code.specs.StackSorts as items
-use Rattle.dc_tree.specs.Syntax.{number}
-use Rattle.dc_tree.specs.declared.symbols.Role as roles
-use Rattle.dc_lower.specs.Blocks.{block_is_lowered, block_is_typed}
 use Rattle.dc_actions.specs.Typed.{deed_is_typed}
 
 -- ---- blocks. Before an item there are so many texts, so many groups are taken, and there are so many loops.

@@ -10,14 +10,12 @@ use Rattle.dc_code.specs.Troubles.{Slots}
 use Rattle.dc_tree.specs.Entities.{Scope}
 use Rattle.dc_meaning.specs.Actions.{Flow}
 use Rattle.dc_meaning.specs.Acts.{State, Act}
+use Rattle.dc_actions.specs.Carrying.{inside}
 use Rattle.dc_actions.specs.Deeds.{InstrsStand}
 use Rattle.dc_actions.specs.Placed.{HaveNames, HaveKept, IsLineless}
 
--- The state of a block inside these entities, with so many turns left.
-abbrev pub inside : Slots → ℕ → State
-inside own turns = record { frames = record { slots = own; dummies = [] } ∷ []; turns = turns }
-
--- The same of a whole part, which leaves the turns; what it leaves in its frame isn't asked for. It may use the groups
+-- A run of the machine from the beginning of a part is what the part means, and leaves the turns; what it leaves in
+-- its frame isn't asked for. It may use the groups
 -- that are added for it from a number on. Where loops stand in it nothing is around them.
 abbrev pub RunPart : CodeLists → Scope → (loops : Bool) → (free : ℕ) → List Group → List Instr → Act Flow → Type 0
 RunPart code scope loops free groups instrs meant =
