@@ -82,4 +82,3 @@ block-runs ground scope fits holds changeable true free_to next free number (and
     (second-stand ground.plan.groups free [] (groups_of_block scope rest) groups) (omega (arith, few)) (both-true so).1 typed refl)
 block-runs ground scope fits holds changeable false free_to next free number (and_then (loop head inside close) rest) below texts groups few so typed may = absurd (false≢true so)
 block-runs ground scope fits holds changeable main free_to next free number (and_then other rest) below texts groups few so typed may = absurd (false≢true so)
-

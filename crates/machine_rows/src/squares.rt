@@ -185,12 +185,24 @@ fn squares_by_hand(rt: HostRuntime) -> Result<(), Fail> {
     let seen = squares(rt.alloc())?;
     assert!(rt; seen.is_some());
     if let Some(seen) = seen {
-        assert_eq!(rt; seen.entered, Ended::Paused { at: 0, turns: TURNS });
+        assert_eq!(rt;
+            seen.entered,
+            Ended::Paused {
+                at: 0,
+                turns: TURNS
+            }
+        );
         assert_eq!(rt; seen.entering, Some(What::Enter { c: 0 }));
         assert_eq!(rt; seen.limits, Some((1, 4, 1)));
         assert!(rt; seen.iterated);
         assert_eq!(rt; seen.elements.as_bytes(), b"1 4 9 16".as_slice());
-        assert_eq!(rt; seen.put, Ended::Paused { at: 2, turns: TURNS });
+        assert_eq!(rt;
+            seen.put,
+            Ended::Paused {
+                at: 2,
+                turns: TURNS
+            }
+        );
         assert_eq!(rt; seen.line.as_bytes(), b"1 4 9 16\n".as_slice());
     }
     Ok(())

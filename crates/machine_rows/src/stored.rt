@@ -89,7 +89,13 @@ fn a_stored_value_is_put(rt: HostRuntime) -> Result<(), Fail> {
     let ran = ran(rt.alloc())?;
     assert!(rt; ran.is_some());
     if let Some((ended, line)) = ran {
-        assert_eq!(rt; ended, Ended::Paused { at: 6, turns: TURNS });
+        assert_eq!(rt;
+            ended,
+            Ended::Paused {
+                at: 6,
+                turns: TURNS
+            }
+        );
         assert_eq!(rt; line.as_bytes(), b"42\n".as_slice());
     }
     Ok(())
