@@ -1,0 +1,2 @@
+//! The instructions of branches and loops.
+#![tactic(auto)]
