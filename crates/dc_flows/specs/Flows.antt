@@ -10,7 +10,7 @@ use Rattle.dc_code.specs.declared.instr.Relation.{Relation}
 use Rattle.dc_code.specs.declared.instr.What.{What}
 use Rattle.dc_code.specs.declared.plan.Group.{Group}
 use Rattle.dc_tree.specs.Blocks.{Line, Item, Items, Arms, plain, branch, select, loop, none, and_then, no_arms, arm}
-use Rattle.dc_tree.specs.Entities.{Entity, Scope, entity}
+use Rattle.dc_tree.specs.Entities.{Entity, outside, Scope, entity}
 use Rattle.dc_tree.specs.Statements as statements
 use Rattle.dc_tree.specs.Statements.{Name, Ranging, CaseRange, Deed, cycle, exit, continue, stop, error_stop, Statement}
 use Rattle.dc_tree.specs.Syntax.{Tree}
@@ -107,10 +107,17 @@ range_code scope group sort (statements.up_to high) = bound_code group Relation.
 range_code scope group sort (statements.between low high) =
     bound_code group Relation.Ge (constant_value scope low) ++ (bound_code group Relation.Le (constant_value scope high) ++ What.And ∷ [])
 
+-- Whether the range, or one of these, has the selector, or what is on top of the stack holds already.
+abbrev pub further_range_code : Scope → (group : ℕ) → Sort → CaseRange → List What
+further_range_code scope group sort range = range_code scope group sort range ++ What.Or ∷ []
+
+abbrev pub further_ranges_code : Scope → (group : ℕ) → Sort → List CaseRange → List What
+further_ranges_code scope group sort [] = []
+further_ranges_code scope group sort (range ∷ ranges) = further_range_code scope group sort range ++ further_ranges_code scope group sort ranges
+
 -- Whether some range has the selector.
 abbrev pub ranges_code : Scope → (group : ℕ) → Sort → List CaseRange → List What
-ranges_code scope group sort [] = What.Truth false ∷ []
-ranges_code scope group sort (range ∷ ranges) = range_code scope group sort range ++ (ranges_code scope group sort ranges ++ What.Or ∷ [])
+ranges_code scope group sort ranges = What.Truth false ∷ further_ranges_code scope group sort ranges
 
 abbrev pub selected : Statement → Option Tree
 selected (statements.select_case tree) = Some tree
@@ -139,19 +146,33 @@ pub record Rounds : Type 0 where
 abbrev pub while_rounds : Option Name → List What → Rounds
 while_rounds label test = record { label = label; head = []; test = test; step = []; groups = [] }
 
-abbrev pub store_code : Scope → Entity → List What
-store_code scope variable = storing_code scope variable (Some [])
+-- A value on top of the stack is stored in a scalar of the main program.
+abbrev pub store_code : Entity → List What
+store_code (outside variable sort bounds) = What.Subscript variable ∷ What.Store variable ∷ []
+store_code other = []
+
+-- The rounds are counted, and the variable takes its first value.
+abbrev pub start_code : Kind → (first left : ℕ) → Entity → List What
+start_code its_kind first left variable = What.Count its_kind ∷ (keep_code left ++ (fetch_code first ++ store_code variable))
+
+-- The last limit and the step, and how the rounds begin.
+abbrev pub behind_first_code : Scope → Kind → (first step left : ℕ) → Entity → Ranging → List What
+behind_first_code scope its_kind first step left variable ranging =
+    value_code scope ranging.last ++ (What.Wrap its_kind ∷ (step_code scope its_kind ranging.step ++ (keep_code step ++ (fetch_code step
+    ++ start_code its_kind first left variable))))
 
 abbrev pub counted_head : Scope → (group : ℕ) → Kind → Entity → Ranging → List What
 counted_head scope group its_kind variable ranging =
     value_code scope ranging.first ++ (What.Wrap its_kind ∷ (keep_code group ++ (fetch_code group
-    ++ (value_code scope ranging.last ++ (What.Wrap its_kind ∷ (step_code scope its_kind ranging.step ++ (keep_code (group + 1) ++ (fetch_code (group + 1)
-    ++ (What.Count its_kind ∷ (keep_code (group + 2) ++ (fetch_code group ++ store_code scope variable)))))))))))
+    ++ behind_first_code scope its_kind group (group + 1) (group + 2) variable ranging)))
 
-abbrev pub counted_step : Scope → (group : ℕ) → Kind → Entity → List What
-counted_step scope group its_kind variable =
-    entity_code variable ++ (fetch_code (group + 1) ++ (What.Arith Op.Add its_kind ∷ (store_code scope variable
-    ++ (fetch_code (group + 2) ++ (What.Const Kind.K8 (pos 1) ∷ What.Arith Op.Sub Kind.K8 ∷ keep_code (group + 2))))))
+-- A round fewer is left.
+abbrev pub down_code : (left : ℕ) → List What
+down_code left = fetch_code left ++ (What.Const Kind.K8 (pos 1) ∷ What.Arith Op.Sub Kind.K8 ∷ keep_code left)
+
+abbrev pub counted_step : (group : ℕ) → Kind → Entity → List What
+counted_step group its_kind variable =
+    entity_code variable ++ (fetch_code (group + 1) ++ (What.Arith Op.Add its_kind ∷ (store_code variable ++ down_code (group + 2))))
 
 abbrev pub rounds_by : Scope → (group : ℕ) → Option Name → Ranging → (variable : Entity) → Rounds
 rounds_by scope group label ranging variable =
@@ -160,7 +181,7 @@ rounds_by scope group label ranging variable =
       label = label;
       head = counted_head scope group its_kind variable ranging;
       test = fetch_code (group + 2) ++ What.Const Kind.K8 (pos 0) ∷ What.Compare Relation.Gt ∷ [];
-      step = counted_step scope group its_kind variable;
+      step = counted_step group its_kind variable;
       groups = scalar_group (whole its_kind) ∷ scalar_group (whole its_kind) ∷ scalar_group (whole Kind.K8) ∷ [];
     }
 

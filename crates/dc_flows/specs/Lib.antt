@@ -1,2 +1,4 @@
 pub mod Flows
+pub mod FlowsCarried
+pub mod FlowsHeld
 pub mod FlowsLowered
