@@ -1,0 +1,16 @@
+pub mod FlowActions
+pub mod FlowArms
+pub mod FlowCases
+pub mod FlowCounted
+pub mod FlowCounts
+pub mod FlowGoing
+pub mod FlowHeads
+pub mod FlowItems
+pub mod FlowLaws
+pub mod FlowLoops
+pub mod FlowParts
+pub mod FlowRounds
+pub mod FlowRuns
+pub mod FlowSelects
+pub mod FlowSizes
+pub mod FlowSlots

@@ -44,6 +44,9 @@ pub record LoopAround : Type 0 where
   pub next : ℕ
   pub behind : ℕ
 
+abbrev pub labels_of : List LoopAround → List (Option Name)
+labels_of around = map (λ found. found.label) around
+
 -- The loop to which a CYCLE or EXIT with this name, or with none, belongs; the innermost is the first.
 abbrev pub loop_named : List LoopAround → Option Name → Option LoopAround
 loop_named [] given = None

@@ -2,5 +2,11 @@
 #![tactic(auto)]
 
 mod cases;
+mod law;
 mod rounds;
 mod scalars;
+
+pub use law::{
+    instructions_of_a_block_with_branches_carry_it_out,
+    instructions_of_a_part_with_branches_carry_it_out,
+};
