@@ -1,3 +1,5 @@
+pub mod Adding
+pub mod Arounds
 pub mod Flows
 pub mod FlowsCarried
 pub mod FlowsHeld

@@ -1,8 +1,11 @@
 //! The instructions of branches and loops, and the law that they do what blocks mean.
 #![tactic(auto)]
 
+mod actions;
+mod around;
 mod cases;
 mod law;
+mod lowering;
 mod rounds;
 mod scalars;
 

@@ -1,0 +1,30 @@
+//! `Lowering`: a part of a code, as it is made.
+
+ghost use Rattle.std.specs.Prelude.{◌≡◌, ◌+◌, length, IfOk};
+
+use dc_actions::held;
+use dc_code::{Group, Instr};
+use dc_text::{DcList, DcText, NoMemory};
+
+/// What there is of a part so far: the place of its first instruction, its instructions, the literals of its
+/// output, its groups of slots, and how many DO CONCURRENT loops it enters.
+#[derive(Drop)]
+pub(crate) struct Lowering {
+    pub base: u32,
+    pub instructions: DcList<Instr>,
+    pub texts: DcList<DcText>,
+    pub groups: DcList<Group>,
+    pub loops: u32,
+}
+
+impl Lowering {
+    /// The place behind so many instructions more.
+    pub(crate) fn place_behind(&self, more: usize) -> Result<u32, NoMemory>
+        ensures { IfOk result (λ place. place
+            ≡ (self.now).base + length (self.now).instructions + more) }
+    {
+        let made = held(self.instructions.len())?;
+        let more = held(more)?;
+        held(self.base as usize + made as usize + more as usize)
+    }
+}
