@@ -1,9 +1,10 @@
 //! `Lowering`: a part of a code, as it is made.
 
-ghost use Rattle.std.specs.Prelude.{◌≡◌, ◌+◌, length, IfOk};
+ghost use Rattle.std.specs.Prelude.{◌≡◌, ◌+◌, ◌++◌, length, IfOk, OnOk};
+ghost use Rattle.dc_actions.specs.Deeds.{lined};
 
 use dc_actions::held;
-use dc_code::{Group, Instr};
+use dc_code::{Group, Instr, What};
 use dc_text::{DcList, DcText, NoMemory};
 
 /// What there is of a part so far: the place of its first instruction, its instructions, the literals of its
@@ -26,5 +27,21 @@ impl Lowering {
         let made = held(self.instructions.len())?;
         let more = held(more)?;
         held(self.base as usize + made as usize + more as usize)
+    }
+
+    /// Adds instructions of one line.
+    #[tactic(auto, using(dc_sorts::proofs::Knowing::gathering))]
+    pub(crate) fn add_lined(&mut self, line: u32, whats: &[What]) -> Result<(), NoMemory>
+        ensures instructions { OnOk result ((self.new).instructions
+            ≡ (self.old).instructions ++ lined line whats.now) }
+        ensures texts { (self.new).texts ≡ (self.old).texts }
+        ensures groups { (self.new).groups ≡ (self.old).groups }
+        ensures loops { (self.new).loops ≡ (self.old).loops }
+        ensures base { (self.new).base ≡ (self.old).base }
+    {
+        for what in whats {
+            self.instructions.push(Instr { line, what: *what })?;
+        }
+        Ok(())
     }
 }
