@@ -96,8 +96,31 @@ impl Lowering {
         Ok(whats)
     }
 
-    /// Adds the instructions of a statement, inside these loops.
+    /// The instructions of a statement or an IF statement, inside these loops.
     #[tactic(auto, using(dc_tree::proofs::Views::statement_views))]
+    pub(crate) fn whats(
+        &mut self,
+        alloc: Global,
+        names: &Names<'_>,
+        around: &[Around<'_>],
+        stmt: &Stmt,
+    ) -> Result<DcList<What>, NoMemory>
+        requires names { AreNamed names.now }
+        requires held { IsTrue (says_has_code (scope_of names.now) (statement stmt.now)) }
+        ensures { IfOk result (λ whats. AddsWhats self.old self.new whats
+            (says_code (scope_of names.now) (before_of self.old) (map around_of around.now)
+            (statement stmt.now))
+            (texts_of_says (statement stmt.now))
+            (groups_of_says (scope_of names.now) (statement stmt.now))) }
+    {
+        match stmt {
+            Stmt::Act(action) => self.action(alloc, names, around, action),
+            Stmt::IfAction { test, action } => self.guarded(alloc, names, around, test, action),
+            _ => unreachable!(),
+        }
+    }
+
+    /// Adds the instructions of a statement or an IF statement, inside these loops.
     pub(crate) fn says(
         &mut self,
         alloc: Global,
@@ -114,11 +137,7 @@ impl Lowering {
             (texts_of_says (statement stmt.now))
             (groups_of_says (scope_of names.now) (statement stmt.now)) 0) }
     {
-        let whats = match stmt {
-            Stmt::Act(action) => self.action(alloc, names, around, action)?,
-            Stmt::IfAction { test, action } => self.guarded(alloc, names, around, test, action)?,
-            _ => unreachable!(),
-        };
+        let whats = self.whats(alloc, names, around, stmt)?;
         self.add_lined(line, whats.as_slice())
     }
 }

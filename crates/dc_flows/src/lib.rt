@@ -8,6 +8,7 @@ mod law;
 mod lowering;
 mod rounds;
 mod scalars;
+mod sizes;
 
 pub use law::{
     instructions_of_a_block_with_branches_carry_it_out,

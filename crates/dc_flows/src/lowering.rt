@@ -1,11 +1,12 @@
 //! `Lowering`: a part of a code, as it is made.
 
-ghost use Rattle.std.specs.Prelude.{◌≡◌, ◌+◌, ◌++◌, length, IfOk, OnOk};
+ghost use Rattle.std.specs.Prelude.{◌≡◌, ◌+◌, ◌++◌, [], length, IfOk, OnOk};
 ghost use Rattle.dc_actions.specs.Deeds.{lined};
 
 use dc_actions::held;
 use dc_code::{Group, Instr, What};
 use dc_text::{DcList, DcText, NoMemory};
+use std::alloc::Global;
 
 /// What there is of a part so far: the place of its first instruction, its instructions, the literals of its
 /// output, its groups of slots, and how many DO CONCURRENT loops it enters.
@@ -19,6 +20,25 @@ pub(crate) struct Lowering {
 }
 
 impl Lowering {
+    /// A part with no instructions, which begins at this place and has these groups. It takes no memory.
+    pub(crate) fn new(alloc: Global, base: u32, groups: DcList<Group>) -> Lowering
+        ensures { result ≡ record {
+          base = base;
+          instructions = [];
+          texts = [];
+          groups = groups;
+          loops = 0;
+        } }
+    {
+        Lowering {
+            base,
+            instructions: DcList::new(alloc),
+            texts: DcList::new(alloc),
+            groups,
+            loops: 0,
+        }
+    }
+
     /// The place behind so many instructions more.
     pub(crate) fn place_behind(&self, more: usize) -> Result<u32, NoMemory>
         ensures { IfOk result (λ place. place
