@@ -4,3 +4,4 @@ pub mod Flows
 pub mod FlowsCarried
 pub mod FlowsHeld
 pub mod FlowsLowered
+pub mod RoundsSeen

@@ -20,14 +20,21 @@ ghost use Rattle.dc_code.specs.declared.instr.What.{What};
 ghost use Rattle.dc_int.specs.declared.kind.Kind.{Kind};
 ghost use Rattle.dc_int.specs.declared.operation.Op.{Op};
 ghost use Rattle.dc_form.specs.BuiltPrograms.{is_held};
-ghost use Rattle.dc_tree.specs.Statements.{counted_ranging};
+ghost use Rattle.dc_tree.specs.Statements.{counted_ranging, statement};
 ghost use Rattle.dc_tree.specs.Syntax.{tree};
 ghost use Rattle.dc_entities.specs.Found.{entity_of};
 ghost use Rattle.dc_actions.specs.Expressions.{entity_code, value_code};
 ghost use Rattle.dc_actions.specs.Limits.{is_held_step, is_held_index, step_code};
 ghost use Rattle.dc_actions.specs.Printing.{is_outside};
 ghost use Rattle.dc_actions.specs.Naming.{scope_of, AreNamed};
+ghost use Rattle.dc_int.specs.Sorts.{whole};
+ghost use Rattle.dc_flows.specs.FlowsHeld.{is_held_test, counted_has_code, head_has_code};
+ghost use Rattle.dc_flows.specs.RoundsSeen.{rounds_seen, round_test_code};
 ghost use Rattle.dc_flows.specs.Flows.{
+  scalar_group,
+  while_rounds,
+  counted_rounds,
+  rounds_of,
   keep_code,
   fetch_code,
   store_code,
@@ -38,13 +45,15 @@ ghost use Rattle.dc_flows.specs.Flows.{
   counted_step,
 };
 
-use crate::scalars::{fetch, keep};
+use crate::scalars::{fetch, keep, scalar_group};
 use dc_actions::{Names, held, value};
-use dc_code::{Relation, What};
-use dc_entities::Found;
+use dc_code::{Group, Relation, What};
+use dc_entities::{Found, find};
 use dc_int::{Kind, Op};
-use dc_text::{DcList, NoMemory};
-use dc_tree::{Counted, Expr};
+use dc_meaning::form_of;
+use dc_sorts::{Form, kind_of};
+use dc_text::{DcList, DcText, NoMemory};
+use dc_tree::{Counted, Expr, Stmt};
 use std::alloc::Global;
 
 /// The groups that a counted DO adds: they keep its first value, its step, and how many rounds are left.
@@ -315,4 +324,117 @@ fn counted_step(
     fetch(whats, counters.step)?;
     next_value(whats, kind, found)?;
     count_down(whats, counters.left)
+}
+
+/// What a loop does before its rounds, before each and behind each, and the groups that are added for it.
+#[derive(Drop)]
+pub(crate) struct Rounds<'a> {
+    pub label: Option<&'a DcText>,
+    pub head: DcList<What>,
+    pub test: DcList<What>,
+    pub step: DcList<What>,
+    pub groups: DcList<Group>,
+}
+
+/// The rounds of a loop that goes round while a test holds, which may be left out.
+fn while_rounds<'a>(
+    alloc: Global,
+    names: &Names<'_>,
+    label: Option<&'a DcText>,
+    test: Option<&Expr>,
+) -> Result<Rounds<'a>, NoMemory>
+    requires names { AreNamed names.now }
+    requires held { IsTrue (is_held_test (option_map (λ test. tree test.now) test)) }
+    ensures { IfOk result (λ rounds. rounds_seen rounds
+        ≡ while_rounds (option_map (λ name. name.now) label.entry)
+        (round_test_code (scope_of names.now) (option_map (λ test. tree test.now) test.entry))) }
+{
+    let mut whats = DcList::new(alloc);
+    match test {
+        Some(test) => {
+            value(alloc, names, &mut whats, test)?;
+        }
+        None => whats.push(What::Truth { n: true })?,
+    }
+    Ok(Rounds {
+        label,
+        head: DcList::new(alloc),
+        test: whats,
+        step: DcList::new(alloc),
+        groups: DcList::new(alloc),
+    })
+}
+
+/// The groups of a counted DO with a variable of this kind.
+#[tactic(auto, using(dc_sorts::proofs::Knowing::gathering))]
+fn counted_groups(alloc: Global, kind: Kind) -> Result<DcList<Group>, NoMemory>
+    ensures { IfOk result (λ groups. groups ≡ scalar_group (whole kind)
+        ∷ (scalar_group (whole kind) ∷ (scalar_group (whole Kind.K8) ∷ []))) }
+{
+    let mut groups = DcList::new(alloc);
+    groups.push(scalar_group(alloc, Form::Whole(kind)))?;
+    groups.push(scalar_group(alloc, Form::Whole(kind)))?;
+    groups.push(scalar_group(alloc, Form::Whole(Kind::K8)))?;
+    Ok(groups)
+}
+
+/// The rounds of a counted DO, whose groups are those from a number on.
+fn counted_rounds<'a>(
+    alloc: Global,
+    names: &Names<'_>,
+    group: u32,
+    label: Option<&'a DcText>,
+    counted: &Counted,
+) -> Result<Rounds<'a>, NoMemory>
+    requires names { AreNamed names.now }
+    requires held { IsTrue (counted_has_code (scope_of names.now) (counted_ranging counted.now)) }
+    ensures { IfOk result (λ rounds. rounds_seen rounds ≡ counted_rounds (scope_of names.now) group
+        (option_map (λ name. name.now) label.entry) (counted_ranging counted.now)) }
+{
+    let found = find(&names.standing, names.numbering, counted.name.as_bytes());
+    let kind = kind_of(form_of(found));
+    let counters = counters_from(group)?;
+    let mut head = DcList::new(alloc);
+    counted_head(alloc, names, &mut head, kind, counters, found, counted)?;
+    let mut test = DcList::new(alloc);
+    counted_test(&mut test, counters.left)?;
+    let mut step = DcList::new(alloc);
+    counted_step(&mut step, kind, counters, found)?;
+    Ok(Rounds {
+        label,
+        head,
+        test,
+        step,
+        groups: counted_groups(alloc, kind)?,
+    })
+}
+
+/// What a loop by this statement does in rounds, whose groups are those from a number on. None for a DO
+/// CONCURRENT.
+#[tactic(auto, using(dc_tree::proofs::Views::statement_views))]
+pub(crate) fn rounds_of<'a>(
+    alloc: Global,
+    names: &Names<'_>,
+    group: u32,
+    stmt: &'a Stmt,
+) -> Result<Option<Rounds<'a>>, NoMemory>
+    requires names { AreNamed names.now }
+    requires held { IsTrue (head_has_code (scope_of names.now) (statement stmt.now)) }
+    ensures { IfOk result (λ rounds. option_map rounds_seen rounds
+        ≡ rounds_of (scope_of names.now) group (statement stmt.entry.now)) }
+{
+    match stmt {
+        Stmt::Do {
+            label,
+            counted: Some(counted),
+        } => {
+            let label = label.as_ref();
+            Ok(Some(counted_rounds(alloc, names, group, label, counted)?))
+        }
+        Stmt::Do { label, .. } => Ok(Some(while_rounds(alloc, names, label.as_ref(), None)?)),
+        Stmt::DoWhile { label, test } => {
+            Ok(Some(while_rounds(alloc, names, label.as_ref(), Some(test))?))
+        }
+        _ => Ok(None),
+    }
 }
