@@ -1,3 +1,4 @@
+pub mod Arms
 pub mod FlowActions
 pub mod FlowArms
 pub mod FlowCases

@@ -4,6 +4,7 @@
 mod actions;
 mod around;
 mod cases;
+mod heads;
 mod law;
 mod lowering;
 mod rounds;
