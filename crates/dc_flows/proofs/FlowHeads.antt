@@ -93,8 +93,8 @@ module _ {code : CodeLists} {go : Going} (flows : FlowsAs code go) (scope : Scop
 
   module _ (ranging : Ranging) (turns end : ℕ) (start : Frame) (K : Span × State → Computing (Frame × ℕ))
       (later : (span : Span) (frame : Frame) → Alike free start frame → held_at frame (free + 1) 0 ≡ Some span.step
-          → held_at frame (free + 2) 0 ≡ Some (pos (min (value_count span) greatest_rounds))
-          → define (element variable 0) span.first line (go end frame turns) ≡ K (span, turned frames turns)) where
+      → held_at frame (free + 2) 0 ≡ Some (pos (min (value_count span) greatest_rounds))
+      → define (element variable 0) span.first line (go end frame turns) ≡ K (span, turned frames turns)) where
     abbrev spanning : ℤ → ℤ → ℤ → Span
     spanning first last step = record { first = taken first; last = taken last; step = taken step }
 

@@ -207,7 +207,7 @@ module _ (code : CodeLists) (go : Going) (flows : FlowsAs code go) (scope : Scop
 
   module _ (before : Before) (line : ℕ) (arms : Arms) (sort : Sort)
       (later : (frame : Frame) (turns : ℕ) (z : ℤ) → HasScalar code frame before.groups sort → held_at frame before.groups 0 ≡ Some (fitted sort z) → turns ≤ greatest_turns
-          → CasesRun before.groups before.groups frame turns sort z arms)
+      → CasesRun before.groups before.groups frame turns sort z arms)
       (there : TextsStand code before.texts (texts_of_cases arms [])) where
     -- The value of the selector is kept, and then an arm is taken.
     kept-from : (at mid end : ℕ) (frame : Frame) (turns : ℕ) (z : ℤ) → mid ≡ at + 2 → end ≡ mid + cases_size scope sort arms 0 → StandAt code line at (keep_code before.groups)

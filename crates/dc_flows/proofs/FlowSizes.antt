@@ -162,8 +162,16 @@ arm-length before line test size block rest further long others =
     let jump : List Instr = lined line (What.Jump (next + rest) ∷ []) in
     let own : length (block (placed start before)) ≡ size = long (placed start before) in
     let later : length (further next) ≡ rest = others next in
-    omega (arith, own, later, length-append (lined line (test_code test next)) (block (placed start before) ++ (jump ++ further next)), length-lined line (test_code test next),
-    length-append test (What.JumpFalse next ∷ []), length-append (block (placed start before)) (jump ++ further next), length-append jump (further next))
+    omega (
+      arith,
+      own,
+      later,
+      length-append (lined line (test_code test next)) (block (placed start before) ++ (jump ++ further next)),
+      length-lined line (test_code test next),
+      length-append test (What.JumpFalse next ∷ []),
+      length-append (block (placed start before)) (jump ++ further next),
+      length-append jump (further next),
+    )
 
 -- ---- blocks
 

@@ -15,3 +15,4 @@ pub mod FlowRuns
 pub mod FlowSelects
 pub mod FlowSizes
 pub mod FlowSlots
+pub mod FlowsExamples

@@ -279,7 +279,14 @@ fn behind_first(
         (counted_ranging counted.now)) }
 {
     limit(alloc, names, whats, kind, &counted.last)?;
-    kept_step(alloc, names, whats, kind, counters.step, counted.step.as_ref())?;
+    kept_step(
+        alloc,
+        names,
+        whats,
+        kind,
+        counters.step,
+        counted.step.as_ref(),
+    )?;
     start(whats, kind, counters, found)
 }
 

@@ -94,11 +94,7 @@ fn ranges_size(
 /// The size of the arms of IF.
 #[cycle(sizes)]
 #[tactic(auto, using(dc_tree::proofs::Views::statement_views))]
-pub(crate) fn arms_size(
-    alloc: Global,
-    names: &Names<'_>,
-    arms: &[Part],
-) -> Result<u32, NoMemory>
+pub(crate) fn arms_size(alloc: Global, names: &Names<'_>, arms: &[Part]) -> Result<u32, NoMemory>
     requires names { AreNamed names.now }
     requires held { IsTrue (arms_have_code (scope_of names.now)
         (arms_from (map part_items arms.now))) }
@@ -121,12 +117,7 @@ pub(crate) fn arms_size(
 
 /// The size of a loop.
 #[cycle(sizes)]
-fn loop_size(
-    alloc: Global,
-    names: &Names<'_>,
-    head: &Stmt,
-    body: &Block,
-) -> Result<u32, NoMemory>
+fn loop_size(alloc: Global, names: &Names<'_>, head: &Stmt, body: &Block) -> Result<u32, NoMemory>
     requires names { AreNamed names.now }
     requires head { IsTrue (head_has_code (scope_of names.now) (statement head.now)) }
     requires body { IsTrue (inside_has_code
@@ -169,11 +160,7 @@ fn node_size(alloc: Global, names: &Names<'_>, node: &Node) -> Result<u32, NoMem
 /// The size of a block.
 #[cycle(sizes)]
 #[tactic(auto, using(dc_tree::proofs::Views::statement_views))]
-pub(crate) fn block_size(
-    alloc: Global,
-    names: &Names<'_>,
-    block: &Block,
-) -> Result<u32, NoMemory>
+pub(crate) fn block_size(alloc: Global, names: &Names<'_>, block: &Block) -> Result<u32, NoMemory>
     requires names { AreNamed names.now }
     requires held { IsTrue (block_has_code (scope_of names.now) (items block.now)) }
     ensures { IfOk result (λ size. size ≡ block_size (scope_of names.now) (items block.now)) }
@@ -238,8 +225,5 @@ fn select_size(
     };
     let mut whats = DcList::new(alloc);
     let form = selector(alloc, names, &mut whats, 0, expr)?;
-    sum(
-        held(whats.len())?,
-        cases_size(alloc, names, form, arms)?,
-    )
+    sum(held(whats.len())?, cases_size(alloc, names, form, arms)?)
 }
