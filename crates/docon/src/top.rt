@@ -5,9 +5,9 @@ ghost use Rattle.docon.specs.Answers.{Answers, KeepsFiles};
 ghost use Rattle.docon.specs.Report.{reading, Reported};
 ghost use Rattle.docon.specs.Writing.{change};
 
-use crate::command::{file_of, task_of};
-use crate::report::{Report, only_log, source_report};
-use crate::statuses::{NO_MEMORY, READ_FAULT, WORDS};
+use crate::report::{Report, only_log, source_report, words_refusal};
+use crate::request::{WordsFail, request_of};
+use crate::statuses::{NO_MEMORY, READ_FAULT};
 use crate::writing::write_report;
 use dc_outer::{FileFault, Files, Gate, Sink, Source};
 use dc_text::{DcText, NoMemory};
@@ -25,11 +25,13 @@ fn report<F: Files, G: Gate + Sync>(
     ensures report { IfOk result (Reported (reading words.now F.told F.faults files.old files.new)) }
     ensures files_kept { KeepsFiles words.now F.told F.faults files.old files.new }
 {
-    let Some(file) = file_of(words) else {
-        return only_log(alloc, b"words: command", WORDS);
+    let request = match request_of(alloc, words) {
+        Ok(request) => request,
+        Err(WordsFail::Refused(bad)) => return words_refusal(alloc, bad),
+        Err(WordsFail::NoMemory) => return Err(NoMemory),
     };
-    match files.read(alloc, file, MOST_SOURCE) {
-        Ok(text) => source_report(alloc, task_of(words), text.as_slice(), gate),
+    match files.read(alloc, &request.file, MOST_SOURCE) {
+        Ok(text) => source_report(alloc, request.task, text.as_slice(), gate),
         Err(FileFault::Failed) => only_log(alloc, b"read: file", READ_FAULT),
         Err(FileFault::NoMemory) => Err(NoMemory),
     }
