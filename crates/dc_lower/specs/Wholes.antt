@@ -10,7 +10,7 @@ use Rattle.dc_meaning.specs.Calls.{callee, greatest_call_depth, procedures_from}
 use Rattle.dc_meaning.specs.Concurrent.{Concurrent, Surroundings}
 use Rattle.dc_meaning.specs.Numbering.{concurrent_at, loop_and_inside, loops_of, loops_of_all}
 use Rattle.dc_meaning.specs.WalkScope.{index_scope}
-use Rattle.dc_meaning.specs.Alone.{index_name}
+use Rattle.dc_meaning.specs.Looping.{index_name}
 use Rattle.dc_lower.specs.Held.{block_has_code}
 use Rattle.dc_lower.specs.declared.program.Lists.{Lists}
 use Rattle.dc_lower.specs.Blocks.{texts_of_block}

@@ -15,7 +15,7 @@ use Rattle.dc_tree.specs.Typing.{sort_of_entity}
 use Rattle.dc_tree.specs.Statements as statements
 use Rattle.dc_tree.specs.Statements.{Name, Ranging, Statement, concurrent}
 use Rattle.dc_tree.specs.Syntax.{Tree}
-use Rattle.dc_meaning.specs.Alone.{index_name, nth_loop}
+use Rattle.dc_meaning.specs.Looping.{index_name, nth_loop}
 use Rattle.dc_meaning.specs.Concurrent.{Outside, Concurrent, Surroundings, scalars_from, variables_from, local_of, reduction_of, block_scope, copied_by, combined_by, fresh_locals}
 use Rattle.dc_meaning.specs.Execution.{exec_all}
 use Rattle.dc_meaning.specs.Headers.{inside_frame, form_of}

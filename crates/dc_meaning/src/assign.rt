@@ -17,10 +17,10 @@ ghost use Rattle.dc_meaning.specs.Storing.{nowhere_fault, assigned, assigned_at,
 ghost use Rattle.dc_meaning.specs.Walking.{Stays};
 ghost use Rattle.dc_meaning.specs.WalkScope.{scope_of, own_of, index_names, is_slots, is_spared_name, IsWalk};
 
+use crate::expressions::{all_values, value};
 use crate::reading::element_of;
 use crate::settling::fault;
 use crate::stop::Stop;
-use crate::value::{all_values, value};
 use crate::walk::Walk;
 use dc_entities::{Found, elements, find};
 use dc_int::{ElementId, FaultKind};

@@ -16,7 +16,7 @@ use dc_tree::Action;
 use std::alloc::Global;
 
 /// Carries out an assignment.
-pub(crate) fn act(
+pub fn act(
     alloc: Global,
     walk: &Walk<'_>,
     ledger: &mut Ledger,

@@ -4,7 +4,7 @@ ghost use Rattle.std.specs.Prelude.{◌≡◌, [], ◌∷◌, IfOk, IsTrue};
 ghost use Rattle.dc_entities.specs.Numbering.{numbers_of};
 ghost use Rattle.dc_form.specs.BuiltPrograms.{are_built_symbols};
 ghost use Rattle.dc_tree.specs.Statements.{index_ranging, statement};
-ghost use Rattle.dc_meaning.specs.Visiting as visiting;
+ghost use Rattle.dc_meaning.specs.Looping as looping;
 ghost use Rattle.dc_meaning.specs.WalkScope.{kind_of_index};
 
 use crate::arrays::form_of;
@@ -17,8 +17,8 @@ use std::alloc::Global;
 
 /// The first index of a header.
 pub fn first_index(head: &Stmt) -> &Index
-    requires { IsTrue (visiting.has_index (statement head.now)) }
-    ensures { visiting.first_index (statement head.now) (index_ranging result.now) }
+    requires { IsTrue (looping.has_index (statement head.now)) }
+    ensures { looping.first_index (statement head.now) (index_ranging result.now) }
 {
     match head {
         Stmt::Concurrent { indexes, .. } => match indexes.as_slice() {

@@ -9,7 +9,7 @@ use dc_text::NoMemory;
 /// Why a statement or an expression isn't carried out: it ends badly, by a fault or with no turn
 /// left at the line of its statement, or memory was wanting.
 #[derive(Clone, Copy, Debug, PartialEq, Eq)]
-pub(crate) enum Stop {
+pub enum Stop {
     Failed { why: Why, line: u32 },
     NoMemory,
 }

@@ -6,7 +6,7 @@ use dc_sorts::Standing;
 /// Where a statement stands: the names that can be used there, how outside variables are numbered, and
 /// the values of the indexes of the loop around, in the order of its header.
 #[derive(Clone, Copy)]
-pub(crate) struct Walk<'a> {
+pub struct Walk<'a> {
     pub standing: Standing<'a>,
     pub numbering: &'a Numbering,
     pub values: &'a [i64],

@@ -18,7 +18,7 @@ use Rattle.dc_code.specs.Verdicts.{seen}
 use Rattle.dc_code.specs.Visits.{Visited}
 use Rattle.dc_steps.specs.Ending.{left_at}
 use Rattle.dc_tree.specs.declared.symbols.Symbol.{Symbol}
-use Rattle.dc_meaning.specs.Visiting.{visit_of}
+use Rattle.dc_walk.specs.Visiting.{visit_of}
 use Rattle.dc_run.specs.declared.ending.Ending as endings
 use Rattle.dc_run.specs.declared.standing.Standing as standings
 use Rattle.dc_run.specs.declared.variables.Variables.{Variables}

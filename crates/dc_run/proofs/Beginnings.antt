@@ -17,8 +17,8 @@ use Rattle.dc_tree.specs.Statements.{Statement, concurrent}
 use Rattle.dc_entities.specs.Numbering.{numbers_of}
 use Rattle.dc_meaning.specs.Execution.{is_concurrent, loops_in, loops_in_all}
 use Rattle.dc_meaning.specs.Programs.{first_store, main_computation, program_forms, program_loops, surroundings}
-use Rattle.dc_meaning.proofs.Passing.{built-source}
-use Rattle.dc_meaning.proofs.Visitable.{visitable}
+use Rattle.dc_meaning.proofs.ProgramLoops.{built-source}
+use Rattle.dc_walk.proofs.Visitable.{visitable}
 use Rattle.dc_lower.specs.Lowerable.{IsLowerable}
 use Rattle.dc_lower.specs.Lowered.{lowered}
 use Rattle.dc_lower.specs.Today.{is_of_today}
@@ -40,7 +40,7 @@ use Rattle.dc_run.proofs.FirstFits.{first-fits}
 use Rattle.dc_run.proofs.Fitting.{shapes-sorted}
 use Rattle.dc_run.proofs.Owned.{accesses-own}
 use Rattle.dc_run.proofs.Shaped.{shapes-alike}
-use Rattle.dc_meaning.proofs.EveryOrder.{visit-fits}
+use Rattle.dc_walk.proofs.EveryOrder.{visit-fits}
 use Rattle.dc_run.proofs.Visited.{same-shape, loop-keeps}
 
 -- ---- the loops

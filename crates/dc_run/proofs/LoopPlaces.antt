@@ -9,7 +9,7 @@ use Rattle.dc_tree.specs.declared.program.Node.{Node, Plain, If, Select, Loop}
 use Rattle.dc_tree.specs.declared.program.Part.{Part}
 use Rattle.dc_tree.specs.Blocks.{Line, Item, Items, Arms, and_then, plain, branch, select, loop, items_from, item, items, line_of}
 use Rattle.dc_tree.proofs.Views.{item-Plain, item-If, item-Select, item-Loop}
-use Rattle.dc_meaning.specs.Alone.{nth_loop}
+use Rattle.dc_meaning.specs.Looping.{nth_loop}
 use Rattle.dc_run.specs.LoopPlaces.{loop_places}
 
 -- A loop stands at a place behind so many items.

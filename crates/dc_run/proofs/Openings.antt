@@ -21,9 +21,9 @@ use Rattle.dc_steps.specs.Ending.{what_is_left, left_at}
 use Rattle.dc_tree.specs.declared.symbols.Symbol.{Symbol}
 use Rattle.dc_tree.specs.Blocks.{Line, Items}
 use Rattle.dc_lower.specs.Heading.{stack_of}
-use Rattle.dc_meaning.specs.declared.header.Limits.{Limits}
-use Rattle.dc_meaning.specs.Visiting.{span_with}
-use Rattle.dc_meaning.proofs.Visiting.{one-span, no-pause}
+use Rattle.dc_walk.specs.declared.header.Limits.{Limits}
+use Rattle.dc_walk.specs.Visiting.{span_with}
+use Rattle.dc_walk.proofs.Visiting.{one-span, no-pause}
 use Rattle.dc_run.specs.Resuming.{IsReachable}
 use Rattle.dc_run.specs.Variables.{Held, after_entry}
 use Rattle.dc_run.proofs.Played.{over_held}

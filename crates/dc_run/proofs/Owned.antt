@@ -17,8 +17,8 @@ use Rattle.dc_tree.specs.declared.symbols.Symbol.{Symbol}
 use Rattle.dc_tree.specs.Blocks.{Source}
 use Rattle.dc_form.specs.BuiltPrograms.{are_built_symbols, is_built}
 use Rattle.dc_meaning.specs.Programs.{program_forms}
-use Rattle.dc_meaning.proofs.EveryOrder.{accesses-may}
-use Rattle.dc_meaning.proofs.Passing.{built-source}
+use Rattle.dc_walk.proofs.EveryOrder.{accesses-may}
+use Rattle.dc_meaning.proofs.ProgramLoops.{built-source}
 use Rattle.dc_run.proofs.Elements.{to_elements, names-own, element-there}
 use Rattle.dc_run.specs.declared.ending.Ending as endings
 use Rattle.dc_run.specs.Answered.{IsElement, NamesOwn, NamesThere}

@@ -23,7 +23,7 @@ use Rattle.dc_tree.specs.Blocks.{Source}
 use Rattle.dc_form.specs.BuiltPrograms.{is_built}
 use Rattle.dc_tree.specs.Symbols.{is_sound}
 use Rattle.dc_meaning.specs.Programs.{first_store, main_computation, program_forms}
-use Rattle.dc_meaning.proofs.EveryOrder.{loop-says}
+use Rattle.dc_walk.proofs.EveryOrder.{loop-says}
 use Rattle.dc_run.specs.declared.ending.Ending as endings
 use Rattle.dc_run.specs.declared.ending.RunOut.{RunOut}
 use Rattle.dc_run.specs.Answered.{ending_of, IsRunOf}

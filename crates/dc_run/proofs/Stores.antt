@@ -22,8 +22,8 @@ use Rattle.dc_form.specs.BuiltPrograms.{greatest_names, greatest_elements, eleme
 use Rattle.dc_tree.specs.Symbols.{is_sound}
 use Rattle.dc_meaning.specs.Programs.{first_store, main_computation}
 use Rattle.dc_meaning.proofs.Doing.{Any, Only}
-use Rattle.dc_meaning.proofs.EveryOrder.{visit-fits}
-use Rattle.dc_meaning.proofs.Passing.{built-source}
+use Rattle.dc_walk.proofs.EveryOrder.{visit-fits}
+use Rattle.dc_meaning.proofs.ProgramLoops.{built-source}
 use Rattle.dc_run.specs.Playing.{Visit, Outcome, Standing, Looping, greatest_output, fails_with, behind_output, behind_visit, with_input, with_store, takes_one, takes_each, ends_reading, behind_loop, answered, played, looping_by, run}
 use Rattle.dc_run.specs.Stores.{declared_shapes, Fits, IsAmong, StoresFit, stores_taken, stores_taken_each, stores_read, stores_left, stores_behind, stores_from}
 use Rattle.dc_run.proofs.Fitting.{TakesNothing, keeping, shapes-sorted, main-keeps}

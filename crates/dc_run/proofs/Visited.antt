@@ -14,7 +14,7 @@ use Rattle.dc_code.specs.Troubles.{Trouble, Slots, Computing, write_line, take_v
 use Rattle.dc_code.specs.Verdicts.{Verdict, go_on, at_header, in_iteration, race, verdict, visited_by, judged_by, judgement, trouble_in, seen}
 use Rattle.dc_code.specs.Visits.{Visited, visited}
 use Rattle.dc_code.proofs.Stores.{shape-after, shape-then}
-use Rattle.dc_meaning.specs.Visiting.{visit_of}
+use Rattle.dc_walk.specs.Visiting.{visit_of}
 use Rattle.dc_run.specs.Running.{loop_in, KeepsShape, IsVisitWith}
 
 pub same-shape : (store : Store) → SameShape store store

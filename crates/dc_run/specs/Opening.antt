@@ -3,7 +3,7 @@ use Rattle.std.specs.Prelude.{◌≡◌, ℕ, [], ◌∷◌}
 use Rattle.dc_int.specs.Store.{Store}
 use Rattle.dc_code.specs.Computation.{done, bad, over}
 use Rattle.dc_code.specs.Loops.{Form}
-use Rattle.dc_meaning.specs.Visiting.{span_with}
+use Rattle.dc_walk.specs.Visiting.{span_with}
 use Rattle.dc_run.specs.declared.opening.Opened.{Opened}
 
 -- What the header's computation comes to over a store: the values of one index between these limits, with so many turns

@@ -15,9 +15,9 @@ use Rattle.dc_steps.specs.Ready.{AreReady}
 use Rattle.dc_tree.specs.declared.symbols.Symbol.{Symbol}
 use Rattle.dc_tree.specs.Blocks.{Line, Items}
 use Rattle.dc_lower.specs.Heading.{HasHeader}
-use Rattle.dc_meaning.specs.Alone.{nth_loop}
+use Rattle.dc_meaning.specs.Looping.{nth_loop}
 use Rattle.dc_meaning.specs.Programs.{first_store}
-use Rattle.dc_meaning.specs.Visiting.{IsVisitable}
+use Rattle.dc_walk.specs.Visiting.{IsVisitable}
 use Rattle.dc_run.specs.Answered.{ending_of}
 use Rattle.dc_run.specs.Playing.{Outcome, Standing, Looping, greatest_output, ends_with, answered, played}
 use Rattle.dc_run.specs.ReportLine as endings

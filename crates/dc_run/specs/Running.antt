@@ -12,7 +12,7 @@ use Rattle.dc_code.specs.Loops.{Loop, Orders}
 use Rattle.dc_code.specs.Verdicts.{seen}
 use Rattle.dc_code.specs.Visits.{visited}
 use Rattle.dc_tree.specs.declared.symbols.Symbol.{Symbol}
-use Rattle.dc_meaning.specs.Visiting.{visit_of}
+use Rattle.dc_walk.specs.Visiting.{visit_of}
 use Rattle.dc_run.specs.declared.ending.Ending as code
 use Rattle.dc_run.specs.declared.standing.Step.{Step}
 use Rattle.dc_run.specs.Answered.{IsElement, NamesOwn}

@@ -2,7 +2,7 @@
 
 ghost use Rattle.std.specs.Prelude.{◌≡◌, ◌<◌, length, map, slice_get, Some, IfOk};
 ghost use Rattle.dc_tree.specs.Blocks.{item, items, items_from, line_of};
-ghost use Rattle.dc_meaning.specs.Alone.{nth_loop};
+ghost use Rattle.dc_meaning.specs.Looping.{nth_loop};
 ghost use Rattle.dc_run.specs.LoopPlaces.{is_loop, loop_places};
 
 use crate::standing::{Found, Task};

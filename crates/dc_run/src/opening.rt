@@ -14,9 +14,9 @@ use crate::standing::{Found, Task};
 use crate::variables::Variables;
 use dc_frame::Frame;
 use dc_int::Why;
-use dc_meaning::Limits;
 use dc_steps::Ended;
 use dc_text::NoMemory;
+use dc_walk::Limits;
 use std::alloc::Global;
 
 /// What the header of a loop comes to: the limits of its one index with the turns that are left, or a statement

@@ -30,11 +30,11 @@ use dc_code::{Code, Verdict, What};
 use dc_entities::Numbering;
 use dc_frame::Frame;
 use dc_int::Why;
-use dc_meaning::visit;
 use dc_plain::Ledger;
 use dc_steps::Ended;
 use dc_text::{DcList, DcText, NoMemory};
 use dc_tree::Symbols;
+use dc_walk::visit;
 use std::alloc::Global;
 
 /// The end of a run by what is said of a loop, unless the loop goes on.

@@ -3,9 +3,9 @@
 use dc_code::{Party, Race};
 use dc_front::{Accepted, accept};
 use dc_int::{Access, Action, ElementId, FaultKind, Touch, Why};
-use dc_meaning::{AloneOut, PlainVerdict, alone, has_loop, plain_verdict};
 use dc_text::NoMemory;
 use dc_tree::Fail as Refused;
+use dc_walk::{AloneOut, PlainVerdict, alone, has_loop, plain_verdict};
 use std::alloc::Global;
 use std::test::Fail;
 

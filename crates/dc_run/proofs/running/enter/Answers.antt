@@ -2,7 +2,7 @@ use Rattle.std.proofs.Common.{sym, ap, ◌∙◌, map}
 use Rattle.std.specs.Prelude.{Some}
 use Rattle.dc_code.specs.declared.instr.What.{What}
 use Rattle.dc_tree.specs.Blocks.{item, items, items_from, line_of}
-use Rattle.dc_meaning.specs.Alone.{nth_loop}
+use Rattle.dc_meaning.specs.Looping.{nth_loop}
 use Rattle.dc_run.specs.Running.{step_behind}
 use Rattle.dc_run.proofs.Left.{attended-behind, usual-behind}
 use Rattle.dc_run.proofs.running.enter.Goals as goal

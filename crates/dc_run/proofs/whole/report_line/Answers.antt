@@ -1,7 +1,7 @@
 use Rattle.std.proofs.Common.{List, sym, subst}
 use Rattle.dc_tree.specs.declared.symbols.Symbol.{Symbol}
 use Rattle.dc_tree.specs.Blocks.{source_of}
-use Rattle.dc_meaning.proofs.Passing.{built-source}
+use Rattle.dc_meaning.proofs.ProgramLoops.{built-source}
 use Rattle.dc_run.specs.Answered.{NamesThere}
 use Rattle.dc_run.proofs.Owned.{names-there}
 use Rattle.dc_run.proofs.whole.report_line.Goals as goal

@@ -1,4 +1,0 @@
-use Rattle.dc_meaning.proofs.judge.race_among.Given as goal
-
-abbrev pub ghost-race_of_pair : goal.ghost-race_of_pair
-ghost-race_of_pair g a = g.parts

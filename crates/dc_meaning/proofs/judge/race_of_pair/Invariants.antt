@@ -1,4 +1,0 @@
-use Rattle.dc_meaning.proofs.judge.race_of_pair.Given as goal
-
-abbrev pub ghost-replay : goal.ghost-replay
-ghost-replay g a = g.parts

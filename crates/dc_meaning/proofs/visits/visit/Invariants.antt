@@ -1,4 +1,0 @@
-use Rattle.dc_meaning.proofs.visits.visit.Given as goal
-
-abbrev pub ghost-visit_between : goal.ghost-visit_between
-ghost-visit_between g a = g.parts

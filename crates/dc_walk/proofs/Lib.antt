@@ -1,0 +1,10 @@
+pub mod Blocking
+pub mod EveryOrder
+pub mod Heading
+pub mod Judging
+pub mod Passing
+pub mod Racing
+pub mod Saying
+pub mod Tasks
+pub mod Visitable
+pub mod Visiting

@@ -1,0 +1,19 @@
+//! The walker of blocks, and the plain judge of loops.
+#![tactic(auto)]
+
+mod alone_out;
+mod block;
+mod header;
+mod iteration;
+mod judge;
+mod looped;
+mod loops;
+mod plain;
+mod task;
+mod visits;
+
+pub use alone_out::AloneOut;
+pub use header::Limits;
+pub use iteration::alone;
+pub use plain::{PlainVerdict, has_loop, plain_verdict};
+pub use visits::visit;
