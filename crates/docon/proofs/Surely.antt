@@ -1,5 +1,5 @@
 -- Over files that never fail, and with room in the sinks.
-use Rattle.std.proofs.Common.{◌≡◌, ℕ, List, take, [], Option, Some, Result, Ok, Err, subst, inl, inr, arith}
+use Rattle.std.proofs.Common.{◌≡◌, ℕ, List, take, [], Some, Result, Ok, Err, subst, inl, inr, arith}
 use Rattle.std.specs.Prelude.{MatchResult, option_map, unwrap_or}
 use Rattle.std.specs.Result.{result_ok}
 use Rattle.dc_outer.specs.Causes.{Rose}
@@ -24,8 +24,8 @@ module _ (words : List (List ℕ)) (files files' : List (List ℕ × List ℕ)) 
       → MatchResult wanted (λ request. HasOutcome (Some (held_or_empty files request.file)) 0 0 outcome) (λ bad. asked.now ≡ asked.before)
       → MatchResult wanted (λ request. IsReportOf request.task outcome report) (λ bad. report ≡ only_log (why_bad bad) 5)
       → MatchResult wanted
-          (λ request. IsReportOf request.task (contents (take read_limit (held_or_empty files (unwrap_or (option_map (λ (x : Request). x.file) (result_ok wanted)) [])))) report)
-          (λ bad. report ≡ only_log (why_bad bad) 5)
+      (λ request. IsReportOf request.task (contents (take read_limit (held_or_empty files (unwrap_or (option_map (λ (x : Request). x.file) (result_ok wanted)) [])))) report)
+      (λ bad. report ≡ only_log (why_bad bad) 5)
   sure-request (Err bad) outcome report read is = is
   sure-request (Ok request) (contents text) report read is = subst (λ (x : List ℕ). IsSourceReport request.task x report) read.first is
   sure-request (Ok request) fault report rose is = absurd (no-rise rose)
