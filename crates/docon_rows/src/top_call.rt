@@ -198,7 +198,11 @@ const REFUSED_WORDS: [(&[&str], &str, u8); 23] = [
     (&["run", "s.f90", "s.f90"], "words: command\n", 5),
     (&["run", "--fast"], "words: command\n", 5),
     (&["run", "--nothing=1", "s.f90"], "words: command\n", 5),
-    (&["run", "--turns=1", "--turns=2", "s.f90"], "words: command\n", 5),
+    (
+        &["run", "--turns=1", "--turns=2", "s.f90"],
+        "words: command\n",
+        5,
+    ),
     (&["run", "--help"], "words: command\n", 5),
     (&["--help"], "words: command\n", 5),
     (&["run", "--turns=0"], "words: command\n", 5),
