@@ -1,5 +1,5 @@
 -- Over files that never fail, and with room in the sinks.
-use Rattle.std.proofs.Common.{◌≡◌, ℕ, List, take, [], Option, Some, Result, Ok, Err, subst, inl, inr, arith}
+use Rattle.std.proofs.Common.{◌≡◌, ℕ, List, take, [], Some, Result, Ok, Err, subst, inl, inr, arith}
 use Rattle.std.specs.Prelude.{MatchResult, option_map, unwrap_or}
 use Rattle.std.specs.Result.{result_ok}
 use Rattle.dc_outer.specs.Causes.{Rose}

@@ -38,8 +38,9 @@ fn report<F: Files, G: Gate + Sync>(
 }
 
 /// Runs the command that the words of a command line name, without the program's own name, and
-/// answers the status of the process. The command `run` runs the program of a file. `check` only tells
-/// whether the file's source is accepted, by the same rules, and `code` lists the code of its program.
+/// answers the status of the process. `run [--turns=T] FILE` runs the program of a file. `check FILE`
+/// only tells whether the file's source is accepted, by the same rules, and `code FILE` lists the code
+/// of its program. What words ask for is `request_of`, in `specs/Words.antt`.
 ///
 /// **For every accepted source that is run, whatever the input and whatever the gate does, what is
 /// written is the report of its run. Each loop that the run reaches ends with the one store that
@@ -55,7 +56,8 @@ fn report<F: Files, G: Gate + Sync>(
 /// each status comes, and `complete` that all was written where nothing failed. The clause `unchanged`
 /// says what stays as it was. Statuses and the lines of the log are listed in `docs/REPORTS.md`.
 ///
-/// The turns are 1,000,000. No statement of today spends one, reads, or is run by workers.
+/// Without `--turns` a run has 1,000,000 turns. No statement of today spends one, reads, or is run by
+/// workers.
 pub fn docon<F: Files, S: Source, W: Sink, L: Sink, G: Gate + Sync>(
     alloc: Global,
     words: &[DcText],
