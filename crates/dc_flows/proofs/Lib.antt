@@ -16,3 +16,15 @@ pub mod FlowSelects
 pub mod FlowSizes
 pub mod FlowSlots
 pub mod FlowsExamples
+pub mod StandActions
+pub mod StandArms
+pub mod StandBlocks
+pub mod StandCases
+pub mod StandCounts
+pub mod StandFlows
+pub mod StandGrounds
+pub mod StandJoints
+pub mod StandJumps
+pub mod StandLoops
+pub mod StandScalars
+pub mod StandShapes

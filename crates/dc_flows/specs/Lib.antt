@@ -4,4 +4,5 @@ pub mod Flows
 pub mod FlowsCarried
 pub mod FlowsHeld
 pub mod FlowsLowered
+pub mod FlowsTyped
 pub mod RoundsSeen
