@@ -1,10 +1,14 @@
 pub mod Blocking
+pub mod Counts
 pub mod EveryOrder
+pub mod Going
 pub mod Heading
 pub mod Judging
 pub mod Passing
+pub mod Quotients
 pub mod Racing
 pub mod Saying
+pub mod Taking
 pub mod Tasks
 pub mod Visitable
 pub mod Visiting

@@ -1,0 +1,24 @@
+//! The turns of an iteration.
+
+ghost use Rattle.dc_code.specs.Troubles.{Slots};
+ghost use Rattle.dc_plain.specs.Views.{View};
+ghost use Rattle.dc_meaning.specs.Acts as acts;
+ghost use Rattle.dc_meaning.specs.Walking.{state_in, Walks};
+
+use dc_int::Why;
+use dc_meaning::Stop;
+
+/// Spends one turn, at a line.
+pub(crate) fn spend(turns: &mut u64, line: u32) -> Result<(), Stop>
+    ensures { (own : Slots) (view : View) → Walks (λ done. done) (state_in own turns.old) view
+        (λ call. acts.spend line) (state_in own turns.new) view result }
+{
+    if *turns == 0 {
+        return Err(Stop::Failed {
+            why: Why::Spent,
+            line,
+        });
+    }
+    *turns -= 1;
+    Ok(())
+}
