@@ -1,14 +1,15 @@
 pub mod Blocking
 pub mod Counts
 pub mod EveryOrder
-pub mod Going
 pub mod Heading
 pub mod Judging
 pub mod Passing
 pub mod Quotients
 pub mod Racing
 pub mod Saying
+pub mod Spending
 pub mod Taking
 pub mod Tasks
 pub mod Visitable
 pub mod Visiting
+pub mod Walkable

@@ -19,7 +19,13 @@ abbrev pub leaving : Act Flow → Option code.Flow → Act Flow
 leaving next None = next
 leaving next (Some flow) = just (flow_of flow)
 
--- What the walker answers for an act of a block, given so many turns, is where that goes on and the turns that it leaves.
--- The block's entities are as they were.
-pub record Goes (own : Slots) (turns : ℕ) (before : View) (act : Callee → Act Flow) (left : ℕ) (after : View) (result : Result code.Flow Stop) : Type 0 where
+-- What the walker answers for an act of a block that may spend turns, given so many: how it goes on, and the turns that it
+-- leaves. The block's entities are as they were.
+pub record Spends (own : Slots) (turns : ℕ) (before : View) (act : Callee → Act Flow) (left : ℕ) (after : View) (result : Result code.Flow Stop) : Type 0 where
   pub walks : Walks flow_of (state_in own turns) before act (state_in own left) after result
+
+-- The same of a whole block, where it isn't told how it goes on, and what turns are left.
+pub record Finishes (own : Slots) (turns : ℕ) (before : View) (act : Callee → Act Flow) (after : View) (result : Result (Unit {0}) Stop) : Type 0 where
+  pub flow : Flow
+  pub left : ℕ
+  pub walks : Walks (λ (done : Unit {0}). flow) (state_in own turns) before act (state_in own left) after result

@@ -6,6 +6,7 @@ pub mod Judging
 pub mod Looped
 pub mod Pairing
 pub mod PlainVerdicts
+pub mod Rounds
 pub mod Telling
 pub mod Visiting
 pub mod Walked

@@ -15,7 +15,7 @@ ghost use Rattle.dc_meaning.specs.Execution as execution;
 ghost use Rattle.dc_meaning.specs.Execution.{exec, exec_all, exec_arms, exec_cases, stepped, counted_rounds, counted_do};
 ghost use Rattle.dc_meaning.specs.WalkScope.{scope_of, own_of, index_names, IsWalk};
 ghost use Rattle.dc_walk.specs.Counting.{scalar_element, span_with, IsMoving};
-ghost use Rattle.dc_walk.specs.Flows.{Goes};
+ghost use Rattle.dc_walk.specs.Flows.{Spends};
 ghost use Rattle.dc_walk.specs.Rounds.{rounds_while};
 ghost use Rattle.dc_walk.specs.Walked.{is_held_or_absent, is_walked, is_walked_ranging, is_walked_loop, is_walked_block, are_walked_arms};
 
@@ -31,7 +31,7 @@ use dc_text::DcText;
 use dc_tree::{Block, Counted, Expr, Lined, Node, Part, Stmt};
 use std::alloc::Global;
 
-/// Goes round while a test holds, or until the loop is left where there is none.
+/// Spends round while a test holds, or until the loop is left where there is none.
 #[cycle(blocks)]
 #[tactic(auto, using(dc_tree::proofs::Views::statement_views))]
 fn perform_while<'a>(
@@ -48,7 +48,7 @@ fn perform_while<'a>(
     requires held { IsTrue (is_held_or_absent (option_map tree (option_copied test))) }
     requires walked { IsTrue (is_walked_block (scope_of walk.now)
         (index_names (walk.now).standing) (items body.now)) }
-    ensures { (number : ℕ) → Goes (own_of walk.now) turns.old ledger.old
+    ensures { (number : ℕ) → Spends (own_of walk.now) turns.old ledger.old
         (λ call. rounds_while (scope_of walk.now) call line label.now
         (option_map tree (option_copied test.entry)) (exec_all (scope_of walk.now) call number (items body.now)))
         turns.new ledger.new result }
@@ -66,7 +66,7 @@ fn perform_while<'a>(
     Ok(Flow::On)
 }
 
-/// Goes round once for each value of the variable of a counted DO, which has its first value.
+/// Spends round once for each value of the variable of a counted DO, which has its first value.
 #[cycle(blocks)]
 #[tactic(auto, using(dc_tree::proofs::Views::statement_views))]
 fn perform_rounds<'a>(
@@ -84,7 +84,7 @@ fn perform_rounds<'a>(
     requires moving { IsMoving steps }
     requires walked { IsTrue (is_walked_block (scope_of walk.now)
         (index_names (walk.now).standing) (items body.now)) }
-    ensures { (number : ℕ) → Goes (own_of walk.now) turns.old ledger.old
+    ensures { (number : ℕ) → Spends (own_of walk.now) turns.old ledger.old
         (λ call. counted_rounds line label.now
         (stepped line (Place.Outer (scalar_element scalar)) (whole scalar.kind) steps.step)
         (exec_all (scope_of walk.now) call number (items body.now)) (value_count (span_with steps)))
@@ -118,7 +118,7 @@ fn perform_counted<'a>(
     requires ranging { IsTrue (is_walked_ranging (scope_of walk.now) (counted_ranging counted.now)) }
     requires walked { IsTrue (is_walked_block (scope_of walk.now)
         (index_names (walk.now).standing) (items body.now)) }
-    ensures { (number : ℕ) → Goes (own_of walk.now) turns.old ledger.old
+    ensures { (number : ℕ) → Spends (own_of walk.now) turns.old ledger.old
         (λ call. counted_do (scope_of walk.now) call line label.now (counted_ranging counted.now)
         (entity (scope_of walk.now) (counted.now).name) (exec_all (scope_of walk.now) call number (items body.now)))
         turns.new ledger.new result }
@@ -146,7 +146,7 @@ fn perform_loop<'a>(
     requires head { IsTrue (is_walked_loop (scope_of walk.now) (statement (head.now).stmt)) }
     requires walked { IsTrue (is_walked_block (scope_of walk.now)
         (index_names (walk.now).standing) (items body.now)) }
-    ensures { (number : ℕ) → Goes (own_of walk.now) turns.old ledger.old
+    ensures { (number : ℕ) → Spends (own_of walk.now) turns.old ledger.old
         (λ call. execution.loop_of (scope_of walk.now) call number (line_of head.now)
         (exec_all (scope_of walk.now) call number (items body.now))) turns.new ledger.new result }
 {
@@ -177,7 +177,7 @@ fn perform_arms<'a>(
     requires walk { IsWalk walk.now }
     requires walked { IsTrue (are_walked_arms (scope_of walk.now)
         (index_names (walk.now).standing) (arms_from (map part_items arms.now))) }
-    ensures { (number : ℕ) → Goes (own_of walk.now) turns.old ledger.old
+    ensures { (number : ℕ) → Spends (own_of walk.now) turns.old ledger.old
         (λ call. exec_arms (scope_of walk.now) call number (arms_from (map part_items arms.now)))
         turns.new ledger.new result }
 {
@@ -203,7 +203,7 @@ fn perform_cases<'a>(
     requires walk { IsWalk walk.now }
     requires walked { IsTrue (are_walked_arms (scope_of walk.now)
         (index_names (walk.now).standing) (arms_from (map part_items arms.now))) }
-    ensures { (number : ℕ) → Goes (own_of walk.now) turns.old ledger.old
+    ensures { (number : ℕ) → Spends (own_of walk.now) turns.old ledger.old
         (λ call. exec_cases (scope_of walk.now) call number given (arms_from (map part_items arms.now)) (just on))
         turns.new ledger.new result }
 {
@@ -229,7 +229,7 @@ fn perform_node<'a>(
     requires walk { IsWalk walk.now }
     requires walked { IsTrue (is_walked (scope_of walk.now)
         (index_names (walk.now).standing) (item node.now)) }
-    ensures { (number : ℕ) → Goes (own_of walk.now) turns.old ledger.old
+    ensures { (number : ℕ) → Spends (own_of walk.now) turns.old ledger.old
         (λ call. exec (scope_of walk.now) call number (item node.now))
         turns.new ledger.new result }
 {
@@ -257,7 +257,7 @@ pub(crate) fn perform_all<'a>(
     requires walk { IsWalk walk.now }
     requires walked { IsTrue (is_walked_block (scope_of walk.now)
         (index_names (walk.now).standing) (items_from (map item nodes.now))) }
-    ensures { (number : ℕ) → Goes (own_of walk.now) turns.old ledger.old
+    ensures { (number : ℕ) → Spends (own_of walk.now) turns.old ledger.old
         (λ call. exec_all (scope_of walk.now) call number (items_from (map item nodes.now)))
         turns.new ledger.new result }
 {

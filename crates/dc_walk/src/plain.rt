@@ -135,6 +135,7 @@ pub fn plain_verdict<'a>(
                 standing: block_standing(symbols, indexes.as_slice()),
                 numbering: &numbering,
                 body: found.body,
+                turns,
             };
             let asked = Asked {
                 program,

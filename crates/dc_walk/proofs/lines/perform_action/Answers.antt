@@ -3,7 +3,7 @@ use Rattle.std.proofs.Common.{refl}
 use Rattle.dc_meaning.proofs.Storing.{goes_on}
 use Rattle.dc_walk.specs.declared.flow.Flow.{Flow}
 use Rattle.dc_walk.specs.Flows.{flow_of}
-use Rattle.dc_walk.proofs.Going.{stays-told, stays-failed}
+use Rattle.dc_walk.proofs.Spending.{stays-told, stays-failed}
 use Rattle.dc_walk.proofs.lines.perform_action.Goals as goal
 
 pub returns-in_err-act-in-Assign : goal.returns-in_err-act-in-Assign
