@@ -46,6 +46,12 @@ pub spends-as : {own : Slots} {turns left : ℕ} {before after : View} {act othe
     → ((call : Callee) → act call ≡ other call) → Spends own turns before other left after r → Spends own turns before act left after r
 spends-as same spent = record { walks = walks-as same spent.walks }
 
+-- an act that is another from this state
+pub spends-at : {own : Slots} {turns left : ℕ} {before after : View} {act other : Callee → Act Flow} {r : Result code.Flow Stop}
+    → ((call : Callee) → act call (state_in own turns) ≡ other call (state_in own turns)) → Spends own turns before other left after r → Spends own turns before act left after r
+spends-at {own = own} {left = left} {before = before} {after = after} {r = r} same spent =
+    record { walks = record { answers = λ call. subst (λ c. Answers flow_of before c (state_in own left) after r) (sym (same call)) (spent.walks.answers call) } }
+
 -- behind an act that spends none
 pub spends-behind : {C D : Type 0} {told : C → D} {own : Slots} {turns left : ℕ} {before between after : View} {first : Callee → Act D} {a : C} {r : Result code.Flow Stop} (next : Callee → D → Act Flow)
     → Stays told own before first between (Ok a) → Spends own turns between (λ call. next call (told a)) left after r → Spends own turns before (λ call. first call >>= next call) left after r

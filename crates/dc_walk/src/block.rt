@@ -12,11 +12,11 @@ ghost use Rattle.dc_int.specs.Sorts.{whole};
 ghost use Rattle.dc_meaning.specs.Acts.{just};
 ghost use Rattle.dc_meaning.specs.Actions.{on};
 ghost use Rattle.dc_meaning.specs.Execution as execution;
-ghost use Rattle.dc_meaning.specs.Execution.{exec, exec_all, exec_arms, exec_cases, stepped, counted_rounds, counted_do};
+ghost use Rattle.dc_meaning.specs.Execution.{exec, exec_all, exec_arms, exec_cases, stepped, counted_rounds, counted_do, while_do};
 ghost use Rattle.dc_meaning.specs.WalkScope.{scope_of, own_of, index_names, IsWalk};
 ghost use Rattle.dc_walk.specs.Counting.{scalar_element, span_with, IsMoving};
 ghost use Rattle.dc_walk.specs.Flows.{Spends};
-ghost use Rattle.dc_walk.specs.Rounds.{rounds_while};
+ghost use Rattle.dc_walk.specs.Rounds.{test_value};
 ghost use Rattle.dc_walk.specs.Walked.{is_held_or_absent, is_walked, is_walked_ranging, is_walked_loop, is_walked_block, are_walked_arms};
 
 use crate::cases::{chosen, selector};
@@ -24,7 +24,7 @@ use crate::counting::{Scalar, Steps, begin, count, scalar_named, step, steps_of}
 use crate::flow::{Flow, leaving};
 use crate::lines::perform_line;
 use crate::testing::{holds, test_of};
-use crate::turns::spend;
+use crate::turns::{most_tests, spend};
 use dc_meaning::{Stop, Walk};
 use dc_plain::Ledger;
 use dc_text::DcText;
@@ -49,11 +49,12 @@ fn perform_while<'a>(
     requires walked { IsTrue (is_walked_block (scope_of walk.now)
         (index_names (walk.now).standing) (items body.now)) }
     ensures { (number : ℕ) → Spends (own_of walk.now) turns.old ledger.old
-        (λ call. rounds_while (scope_of walk.now) call line label.now
-        (option_map tree (option_copied test.entry)) (exec_all (scope_of walk.now) call number (items body.now)))
+        (λ call. while_do line label.now
+        (test_value (scope_of walk.now) call line (option_map tree (option_copied test.entry)))
+        (exec_all (scope_of walk.now) call number (items body.now)))
         turns.new ledger.new result }
 {
-    for _ in 0..=*turns {
+    for _ in 0..most_tests(*turns) {
         if !holds(alloc, walk, ledger, line, test)? {
             return Ok(Flow::On);
         }

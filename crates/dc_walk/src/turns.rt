@@ -1,5 +1,6 @@
 //! The turns of an iteration.
 
+ghost use Rattle.std.specs.Prelude.{◌≡◌, ◌+◌};
 ghost use Rattle.dc_code.specs.Troubles.{Slots};
 ghost use Rattle.dc_plain.specs.Views.{View};
 ghost use Rattle.dc_meaning.specs.Acts as acts;
@@ -21,4 +22,12 @@ pub(crate) fn spend(turns: &mut u64, line: u32) -> Result<(), Stop>
     }
     *turns -= 1;
     Ok(())
+}
+
+/// How often a test can be made before each round: the turns allow so many rounds, and behind the last of them
+/// it may be made once more.
+pub(crate) fn most_tests(turns: u64) -> u128
+    ensures { result ≡ turns + 1 }
+{
+    u128::from(turns) + 1
 }
