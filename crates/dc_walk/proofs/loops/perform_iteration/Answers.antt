@@ -15,3 +15,10 @@ returns c = λ number.
     finishes-in (ap (λ (z : ℤ). (Some z ∷ []) ∷ []) told)
     (finishes-as (λ call. ap (exec_all (scope_at (standing_of c.args.task.standing)) call number) (block-items c.args.task.body.now c.as_slice.result.now c.as_slice.ensures))
     (finishes-well _ (c.in_ok-perform_all.ensures number)))
+
+pub returns-in_err-perform_all : goal.returns-in_err-perform_all
+returns-in_err-perform_all c = λ number.
+    let told = to_z-of_z w64 c.args.value (search rules) in
+    finishes-in (ap (λ (z : ℤ). (Some z ∷ []) ∷ []) told)
+    (finishes-as (λ call. ap (exec_all (scope_at (standing_of c.args.task.standing)) call number) (block-items c.args.task.body.now c.as_slice.result.now c.as_slice.ensures))
+    (finishes-badly c.from_residual.result _ c.from_residual.ensures.1 (c.in_err-perform_all.ensures number)))
