@@ -17,8 +17,8 @@ use Rattle.dc_meaning.specs.Programs.{surroundings}
 use Rattle.dc_lower.specs.Lowerable.{IsLowerable}
 use Rattle.dc_lower.proofs.Blocking.{main-passes}
 use Rattle.dc_lower.proofs.Looping.{loops-pass}
-use Rattle.dc_lower.proofs.Places.{main_standing}
-use Rattle.dc_lower.proofs.Unbroken.{both-none}
+use Rattle.dc_actions.proofs.Places.{main_standing}
+use Rattle.dc_actions.proofs.Unbroken.{both-none}
 
 -- What is built has no procedures.
 record IsMain (symbols : List Symbol) (source : Source) : Type 0 where

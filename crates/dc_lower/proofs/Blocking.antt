@@ -5,7 +5,7 @@ use Rattle.std.specs.List.{list_all}
 use Rattle.dc_int.specs.declared.kind.Kind.{Kind}
 use Rattle.dc_int.specs.Sorts.{whole}
 use Rattle.dc_tree.specs.declared.symbols.Symbol.{Symbol}
-use Rattle.dc_tree.specs.Blocks.{Line, Item, Items, plain, branch, select, none, and_then}
+use Rattle.dc_tree.specs.Blocks.{Items, plain, branch, select, none, and_then}
 use Rattle.dc_tree.specs.Blocks as blocks
 use Rattle.dc_form.specs.BuiltPrograms.{is_built_deed, is_built_assignment, is_built_inside, is_built_line, is_built_block, is_whole_scalar, is_built_index, is_built_loop, all_spare, are_built_items, is_built_symbol}
 use Rattle.dc_tree.specs.Entities.{Entity, outside, Scope, main_scope}
@@ -15,12 +15,11 @@ use Rattle.dc_sorts.specs.Standing.{Standing}
 use Rattle.dc_scope.specs.Scope as scopes
 use Rattle.dc_types.specs.Types as types
 use Rattle.dc_meaning.specs.Execution.{is_concurrent}
-use Rattle.dc_lower.specs.Blocks.{says_is_lowered, block_is_lowered}
-use Rattle.dc_lower.specs.Typed.{says_is_typed, block_is_typed}
-use Rattle.dc_lower.proofs.Deeds.{deed-passes}
-use Rattle.dc_lower.proofs.Places.{main_standing, main-knows}
-use Rattle.dc_lower.proofs.Things.{Knows}
-use Rattle.dc_lower.proofs.Unbroken.{both-none}
+use Rattle.dc_lower.specs.Blocks.{says_is_lowered, block_is_lowered, says_is_typed, block_is_typed}
+use Rattle.dc_actions.proofs.Deeds.{deed-passes}
+use Rattle.dc_actions.proofs.Places.{main_standing, main-knows}
+use Rattle.dc_actions.proofs.Things.{Knows}
+use Rattle.dc_actions.proofs.Unbroken.{both-none}
 
 -- ---- statements
 

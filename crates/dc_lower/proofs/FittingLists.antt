@@ -22,15 +22,16 @@ use Rattle.dc_meaning.specs.Concurrent.{Outside, Concurrent, Surroundings, local
 use Rattle.dc_meaning.specs.Execution.{loops_in_all}
 use Rattle.dc_meaning.specs.Programs.{outsides_from, surroundings, program_loops}
 use Rattle.dc_meaning.proofs.ProgramLoops.{built-source}
-use Rattle.dc_lower.specs.Assigning.{kept_group, all_usable, takes_list}
-use Rattle.dc_lower.specs.Blocks.{groups_of_deed, groups_of_says, groups_of_block, deed_is_lowered, says_is_lowered, item_is_lowered, block_is_lowered}
+use Rattle.dc_actions.specs.Assigning.{kept_group, all_usable, takes_list}
+use Rattle.dc_actions.specs.Deeds.{groups_of_deed, deed_is_lowered}
+use Rattle.dc_lower.specs.Blocks.{groups_of_says, groups_of_block, says_is_lowered, item_is_lowered, block_is_lowered}
 use Rattle.dc_lower.specs.Lowerable.{IsLowerable}
 use Rattle.dc_lower.specs.Lowered.{shape_of, loop_code, plans_of_loops, construct_at, constructs_from, main_code, lowered}
-use Rattle.dc_lower.proofs.Facts.{both-hold, both-true}
-use Rattle.dc_lower.proofs.RunsOfStatements.{HoldsNames}
+use Rattle.dc_actions.proofs.Facts.{both-hold, both-true}
+use Rattle.dc_actions.proofs.RunsOfStatements.{HoldsNames}
 use Rattle.dc_lower.proofs.SimpleLoops.{AreSimple, all-counted}
 use Rattle.std.proofs.lemmas.List.{length-map}
-use Rattle.dc_lower.proofs.Subscripts.{kept-bounds, counted_elements}
+use Rattle.dc_actions.proofs.Subscripts.{kept-bounds, counted_elements}
 use Rattle.dc_lower.proofs.LoopShapes.{all-plain, plain_ones}
 
 -- ---- outside variables

@@ -21,14 +21,14 @@ use Rattle.dc_tree.specs.Statements.{Ranging}
 use Rattle.dc_meaning.specs.Acts.{State, just, for_each}
 use Rattle.dc_meaning.specs.Execution.{span_of, step_value, checked_span}
 use Rattle.dc_meaning.specs.Values.{Callee, value}
-use Rattle.dc_lower.specs.Expressions.{value_code, is_usable}
+use Rattle.dc_actions.specs.Expressions.{value_code, is_usable}
 use Rattle.dc_lower.specs.Heading.{items_of, stack_of}
-use Rattle.dc_lower.specs.Lowered.{step_code, limits_code}
-use Rattle.dc_lower.specs.Placed.{StandAt, HaveNames}
-use Rattle.dc_lower.proofs.Going.{machine-goes, machine-step}
-use Rattle.dc_lower.proofs.OperatorLaws.{gives-unit, sequence-give}
-use Rattle.dc_lower.proofs.PartLaws.{all-values-left}
-use Rattle.dc_lower.proofs.Placing.{stand-left, stand-right, stand-rest, stand-first, stepped}
+use Rattle.dc_actions.specs.Limits.{step_code, limits_code}
+use Rattle.dc_actions.specs.Placed.{StandAt, HaveNames}
+use Rattle.dc_actions.proofs.Going.{machine-goes, machine-step}
+use Rattle.dc_actions.proofs.OperatorLaws.{gives-unit, sequence-give}
+use Rattle.dc_actions.proofs.DeedLaws.{all-values-left}
+use Rattle.dc_actions.proofs.Placing.{stand-left, stand-right, stand-rest, stand-first, stepped}
 
 abbrev spanning : Kind → ℤ → ℤ → Span
 spanning its_kind first last = record { first = wrapped its_kind first; last = wrapped its_kind last; step = pos 1 }

@@ -21,11 +21,11 @@ use Rattle.dc_tree.specs.Symbols.{is_sound}
 use Rattle.dc_tree.specs.Typing.{sort_of_entity}
 use Rattle.dc_meaning.specs.Concurrent.{Outside, Concurrent, Surroundings, reduction_of, block_scope, variables_from}
 use Rattle.dc_meaning.specs.Programs.{outsides_from}
-use Rattle.dc_lower.specs.Lowerable.{are_held_bounds, is_held_symbol}
+use Rattle.dc_actions.specs.Typed.{are_held_bounds, fits_sort, FitNames}
+use Rattle.dc_lower.specs.Lowerable.{is_held_symbol}
 use Rattle.dc_lower.specs.Lowered.{shape_of, index_group}
-use Rattle.dc_lower.specs.Typed.{fits_sort, FitNames}
-use Rattle.dc_lower.proofs.Facts.{both-true}
-use Rattle.dc_lower.proofs.RunsOfStatements.{HoldsNames}
+use Rattle.dc_actions.proofs.Facts.{both-true}
+use Rattle.dc_actions.proofs.RunsOfStatements.{HoldsNames}
 use Rattle.dc_lower.proofs.LoopShapes.{no-locals}
 
 -- ---- in a code

@@ -10,9 +10,11 @@ use Rattle.dc_tree.specs.declared.symbols.Symbol.{Symbol}
 use Rattle.dc_tree.specs.Blocks.{Source}
 use Rattle.dc_tree.specs.Entities.{main_scope}
 use Rattle.dc_meaning.specs.Concurrent.{Concurrent, Surroundings, block_scope}
-use Rattle.dc_lower.specs.Blocks.{lined, block_code}
-use Rattle.dc_lower.specs.Lowered.{limits_code, kind_of_index, header_code, body_code, loop_code, loops_code, no_slots, body_plan, plans_of_loops, construct_at, constructs_from, main_code, main_plan, lowered_with}
-use Rattle.dc_lower.proofs.RunsOfBlocks.{whats_of, whats-lined}
+use Rattle.dc_actions.specs.Deeds.{lined}
+use Rattle.dc_lower.specs.Blocks.{block_code}
+use Rattle.dc_actions.specs.Limits.{limits_code}
+use Rattle.dc_lower.specs.Lowered.{kind_of_index, header_code, body_code, loop_code, loops_code, no_slots, body_plan, plans_of_loops, construct_at, constructs_from, main_code, main_plan, lowered_with}
+use Rattle.dc_actions.proofs.RunsOfDeeds.{whats_of, whats-lined}
 use Rattle.dc_lower.proofs.StraightCodes.{Segment, code_of, code_of_all, part_at, parts_from, starts_from}
 use Rattle.std.proofs.lemmas.List.{map-append, length-map, length-append}
 

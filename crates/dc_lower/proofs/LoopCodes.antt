@@ -36,20 +36,22 @@ use Rattle.dc_meaning.specs.WalkScope.{index_scope}
 use Rattle.dc_meaning.proofs.Looping.{concurrent-with, LoopAt, whole-sort, scope-is}
 use Rattle.dc_meaning.proofs.OwnScopes.{inner-good}
 use Rattle.dc_meaning.proofs.ProgramLoops.{loops-in, loop-at}
-use Rattle.dc_lower.specs.Blocks.{InstrsStand, lined, texts_of_block, groups_of_block, block_is_lowered, part_code}
-use Rattle.dc_lower.specs.Carrying.{inside}
-use Rattle.dc_lower.specs.Lowerable.{IsLowerable, limits_are_lowered, step_is_usable, loop_is_lowered}
-use Rattle.dc_lower.specs.Lowered.{limits_code, index_group, header_code, body_code, loop_code, loops_code, construct_at, main_code, lowered}
-use Rattle.dc_lower.specs.Placed.{HaveNames, HaveKept, IsGroup}
-use Rattle.dc_lower.specs.Typed.{limits_are_typed, block_is_typed}
-use Rattle.dc_lower.specs.Expressions.{is_usable}
+use Rattle.dc_actions.specs.Deeds.{InstrsStand, lined}
+use Rattle.dc_lower.specs.Blocks.{texts_of_block, groups_of_block, block_is_lowered, part_code, block_is_typed}
+use Rattle.dc_actions.specs.Carrying.{inside}
+use Rattle.dc_lower.specs.Lowerable.{IsLowerable, loop_is_lowered}
+use Rattle.dc_actions.specs.Limits.{limits_are_lowered, step_is_usable, limits_code}
+use Rattle.dc_lower.specs.Lowered.{index_group, header_code, body_code, loop_code, loops_code, construct_at, main_code, lowered}
+use Rattle.dc_actions.specs.Placed.{HaveNames, HaveKept, IsGroup}
+use Rattle.dc_actions.specs.Typed.{limits_are_typed}
+use Rattle.dc_actions.specs.Expressions.{is_usable}
 use Rattle.dc_lower.proofs.HeaderCodes.{left_on, header-law}
 use Rattle.dc_lower.proofs.LoopShapes.{all-at, no-texts, numbered}
 use Rattle.dc_lower.proofs.MainNames.{Named, named-names}
 use Rattle.dc_lower.proofs.MainPrograms.{blank-at, scope-named, main-names}
 use Rattle.dc_lower.proofs.PartLaws.{all-blocks-run}
 use Rattle.dc_lower.proofs.PartPlaces.{LoopPlaced, header-some, loop-placed, found-behind}
-use Rattle.dc_lower.proofs.Placing.{get-right, instrs-left, instrs-right, lined-stand}
+use Rattle.dc_actions.proofs.Placing.{get-right, instrs-left, instrs-right, lined-stand}
 
 module _ (symbols : List Symbol) (source : Source) (is : IsLowerable symbols source) (number : ℕ) (head : Line) (body : Items) (nth : Some (head, body) ≡ nth_loop number source.body) where
   abbrev pub code : CodeLists

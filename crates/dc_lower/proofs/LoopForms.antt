@@ -20,8 +20,8 @@ use Rattle.dc_meaning.specs.Numbering.{no_loop}
 use Rattle.dc_meaning.specs.Programs.{surroundings, program_loops, program_forms}
 use Rattle.dc_meaning.specs.WalkScope.{index_scope}
 use Rattle.dc_meaning.proofs.Looping.{concurrent-with, LoopAt, IsLoop, scope-is, copies-form, combines-form}
+use Rattle.dc_meaning.proofs.ProgramLoops as loops
 use Rattle.dc_meaning.proofs.ProgramLoops.{loops-in, loop-at, found-at, form-is}
-use Rattle.dc_walk.proofs.Visitable as visitable
 use Rattle.dc_lower.specs.Agreeing.{SameForm, HasNoIteration}
 use Rattle.dc_lower.specs.Heading.{HasHeader}
 use Rattle.dc_lower.specs.Lowerable.{IsLowerable}
@@ -79,7 +79,7 @@ module _ (symbols : List Symbol) (source : Source) (is : IsLowerable symbols sou
   pub form-same : SameForm 1 (form_in code turns planned) (form_of within loop [])
   form-same = record {
     line = refl;
-    locality = λ variable. plain-here variable ∙ sym (visitable.all-plain within symbols loop refl refl variable (slice_get within.outsides variable) refl);
+    locality = λ variable. plain-here variable ∙ sym (loops.all-plain within loop refl variable (slice_get within.outsides variable) refl);
     kind = same-kind code within loop (lowered-outsides symbols source);
     passed = λ variable. sym (none-passed within loop (λ text. named-whole code no_inner (entity (main_scope symbols) text) (scope-named symbols source is no_inner text)) variable);
     copied = no-elements is_copied refl code planned plain-here ∙ sym (copies-form within symbols there.counted head body there.built []);

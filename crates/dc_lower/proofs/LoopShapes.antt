@@ -10,13 +10,14 @@ use Rattle.dc_code.specs.Codes.{CodeLists, elements_of_shape, elements_of_variab
 use Rattle.dc_code.specs.CodeForms.{local_slots, locality_in, kind_in, sized_localities, elements_where}
 use Rattle.dc_code.specs.Loops.{Copies}
 use Rattle.dc_tree.specs.Blocks as blocks
-use Rattle.dc_tree.specs.Blocks.{Line, Items, plain, branch, select, none, and_then}
+use Rattle.dc_tree.specs.Blocks.{Items, plain, branch, select, none, and_then}
 use Rattle.dc_form.specs.BuiltPrograms.{is_built_inside, is_built_block}
 use Rattle.dc_tree.specs.Entities.{Scope, entity}
 use Rattle.dc_tree.specs.Statements.{Name, Ranging, assign, fill, Statement, concurrent, act}
 use Rattle.dc_meaning.specs.Concurrent.{Outside, Concurrent, Surroundings, locality_of, local_of, is_reduction}
 use Rattle.dc_meaning.specs.Headers.{localities_of}
-use Rattle.dc_lower.specs.Blocks.{lined, texts_of_item, texts_of_block, groups_of_item, says_code, block_code}
+use Rattle.dc_actions.specs.Deeds.{lined}
+use Rattle.dc_lower.specs.Blocks.{texts_of_item, texts_of_block, groups_of_item, says_code, block_code}
 use Rattle.dc_lower.specs.Lowered.{shape_of}
 use Rattle.dc_lower.proofs.MainNames.{HasOutsides}
 

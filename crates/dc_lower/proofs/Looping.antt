@@ -5,7 +5,7 @@ use Rattle.std.specs.List.{list_all}
 use Rattle.dc_int.specs.declared.kind.Kind.{Kind}
 use Rattle.dc_int.specs.Sorts.{Sort, whole, logical}
 use Rattle.dc_tree.specs.declared.symbols.Symbol.{Symbol}
-use Rattle.dc_tree.specs.Blocks.{Line, Item, Items, plain, branch, select, none, and_then}
+use Rattle.dc_tree.specs.Blocks.{Line, Items, plain, branch, select, none, and_then}
 use Rattle.dc_tree.specs.Blocks as blocks
 use Rattle.dc_form.specs.BuiltPrograms.{is_built_line, is_built_block, is_whole_scalar, is_built_limit, is_built_loop, are_built_items, is_built_symbol}
 use Rattle.dc_tree.specs.Entities.{slots, Scope, entity, with_names, main_scope}
@@ -29,15 +29,16 @@ use Rattle.dc_types.specs.Loops as loops
 use Rattle.dc_types.specs.Types as types
 use Rattle.dc_meaning.specs.Concurrent.{Concurrent, Surroundings, block_scope}
 use Rattle.dc_meaning.specs.Numbering.{loops_of, loops_of_all}
-use Rattle.dc_lower.specs.Blocks.{block_is_lowered}
-use Rattle.dc_lower.specs.Expressions.{is_usable, is_number}
-use Rattle.dc_lower.specs.Lowerable.{step_is_usable, limits_are_lowered, loop_is_lowered}
-use Rattle.dc_lower.specs.Typed.{is_typed, is_typed_number, step_is_typed, limits_are_typed, block_is_typed}
+use Rattle.dc_lower.specs.Blocks.{block_is_lowered, block_is_typed}
+use Rattle.dc_actions.specs.Expressions.{is_usable, is_number}
+use Rattle.dc_actions.specs.Limits.{step_is_usable, limits_are_lowered}
+use Rattle.dc_lower.specs.Lowerable.{loop_is_lowered}
+use Rattle.dc_actions.specs.Typed.{is_typed, is_typed_number, step_is_typed, limits_are_typed}
 use Rattle.dc_lower.proofs.Blocking.{block-passes, loop-built, IsScalar, scalar-is}
-use Rattle.dc_lower.proofs.Deeds.{tree-passes}
-use Rattle.dc_lower.proofs.Places.{main_standing, loop_standing, block-knows, limits-know, index-means}
-use Rattle.dc_lower.proofs.Things.{Knows, form-known}
-use Rattle.dc_lower.proofs.Unbroken.{both-none, not-found}
+use Rattle.dc_actions.proofs.Deeds.{tree-passes}
+use Rattle.dc_actions.proofs.Places.{main_standing, loop_standing, block-knows, limits-know, index-means}
+use Rattle.dc_actions.proofs.Things.{Knows, form-known}
+use Rattle.dc_actions.proofs.Unbroken.{both-none, not-found}
 use Rattle.dc_lower.proofs.LoopShapes.{no-locals}
 use Rattle.dc_lower.proofs.KnownNames.{no-reductions}
 use Rattle.dc_lower.proofs.SimpleLoops.{no-loops}

@@ -22,9 +22,10 @@ use Rattle.dc_meaning.specs.WalkScope.{kind_of_index, index_scope}
 use Rattle.dc_meaning.proofs.Gathering.{next-is}
 use Rattle.dc_meaning.proofs.Looping.{BuiltLoop, concurrent-with, one-loop, scope-is}
 use Rattle.dc_lower.specs.declared.program.Lists.{Lists}
-use Rattle.dc_lower.specs.Blocks.{lined, part_code, groups_of_block}
-use Rattle.dc_lower.specs.Held.{is_held_index, is_held_step}
-use Rattle.dc_lower.specs.Lowered.{shape_of, limits_code, header_code, body_code, loop_code, loops_code, no_slots, index_group, body_plan, plans_of_loops, construct_at, constructs_from}
+use Rattle.dc_actions.specs.Deeds.{lined}
+use Rattle.dc_lower.specs.Blocks.{part_code, groups_of_block}
+use Rattle.dc_actions.specs.Limits.{is_held_index, is_held_step, limits_code}
+use Rattle.dc_lower.specs.Lowered.{shape_of, header_code, body_code, loop_code, loops_code, no_slots, index_group, body_plan, plans_of_loops, construct_at, constructs_from}
 use Rattle.dc_lower.specs.Variables.{outsides_of, shapes_of}
 use Rattle.dc_lower.specs.Wholes.{within_of, AddsLoops, loops_at, loops_behind, loop_at, plain_localities}
 use Rattle.dc_lower.proofs.FittingLists.{as-many-constructs}

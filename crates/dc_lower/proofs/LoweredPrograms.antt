@@ -8,7 +8,7 @@ use Rattle.dc_code.specs.declared.plan.ConstructCode.{ConstructCode}
 use Rattle.dc_code.specs.declared.plan.Plan.{Plan}
 use Rattle.dc_tree.specs.declared.symbols.Symbol.{Symbol}
 use Rattle.dc_tree.specs.Blocks as blocks
-use Rattle.dc_tree.specs.Blocks.{Line, Item, Items, Subprogram, Source, plain, branch, select, none, and_then}
+use Rattle.dc_tree.specs.Blocks.{Line, Items, Subprogram, Source, plain, branch, select, none, and_then}
 use Rattle.dc_form.specs.BuiltPrograms.{is_built, are_built_symbols, is_built_deed, is_built_inside, is_built_line, is_built_block, is_built_loop, are_built_items}
 use Rattle.dc_tree.specs.Entities.{Scope, entity, main_scope}
 use Rattle.dc_tree.specs.Statements.{Deed, assign, fill, print, Statement, act}
@@ -20,12 +20,13 @@ use Rattle.dc_meaning.specs.Programs.{surroundings}
 use Rattle.dc_meaning.specs.WalkScope.{index_scope}
 use Rattle.dc_meaning.proofs.Looping.{BuiltLoop, built-loop, concurrent-with, one-loop, scope-is}
 use Rattle.dc_lower.specs.declared.program.Lists.{Lists}
-use Rattle.dc_lower.specs.Assigning.{takes_list, all_usable}
-use Rattle.dc_lower.specs.Blocks.{deed_is_lowered, says_is_lowered, item_is_lowered, block_is_lowered}
-use Rattle.dc_lower.specs.Held.{deed_has_code, says_has_code, item_has_code, block_has_code}
-use Rattle.dc_lower.specs.Lowerable.{limits_are_lowered, loop_is_lowered}
+use Rattle.dc_actions.specs.Assigning.{takes_list, all_usable}
+use Rattle.dc_actions.specs.Deeds.{deed_is_lowered, deed_has_code}
+use Rattle.dc_lower.specs.Blocks.{says_is_lowered, item_is_lowered, block_is_lowered, block_is_typed}
+use Rattle.dc_lower.specs.Held.{says_has_code, item_has_code, block_has_code}
+use Rattle.dc_actions.specs.Limits.{limits_are_lowered}
+use Rattle.dc_lower.specs.Lowerable.{loop_is_lowered}
 use Rattle.dc_lower.specs.Lowered.{main_code, main_plan, loops_code, plans_of_loops, constructs_from, lowered_with, lowered}
-use Rattle.dc_lower.specs.Typed.{block_is_typed}
 use Rattle.dc_lower.specs.Wholes.{lists_code, within_of, loops_behind, AddsLoops, IsBegun, insides_have_code}
 use Rattle.dc_lower.proofs.SimpleLoops.{none-entered}
 use Rattle.dc_lower.proofs.Blocking.{line-built}

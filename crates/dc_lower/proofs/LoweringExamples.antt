@@ -16,11 +16,11 @@ use Rattle.dc_tree.specs.Blocks.{Items, plain, none, and_then}
 use Rattle.dc_tree.specs.Entities.{Scope, outside, slots, constant}
 use Rattle.dc_tree.specs.Statements.{fill, print, act}
 use Rattle.dc_tree.specs.Syntax.{Tree, number, chars, name, refer, paren, unary, binary, no_args, arg}
-use Rattle.dc_lower.specs.Assigning.{assignment_code, filling_code}
+use Rattle.dc_actions.specs.Assigning.{assignment_code, filling_code}
 use Rattle.dc_lower.specs.Blocks.{groups_of_block, part_code}
-use Rattle.dc_lower.specs.Expressions.{value_code}
+use Rattle.dc_actions.specs.Expressions.{value_code}
 use Rattle.dc_lower.specs.Heading.{items_of, stack_of}
-use Rattle.dc_lower.specs.Printing.{printing_code}
+use Rattle.dc_actions.specs.Printing.{printing_code}
 
 -- an array `a` of four elements, a scalar `t` of kind 8, an index `i`, a constant `n`, and truths `q`
 abbrev small : Scope

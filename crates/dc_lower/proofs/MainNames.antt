@@ -21,7 +21,7 @@ use Rattle.dc_meaning.specs.Acts.{State}
 use Rattle.dc_meaning.specs.Concurrent.{Outside, is_reduction}
 use Rattle.dc_meaning.specs.Programs.{outsides_from}
 use Rattle.dc_lower.specs.Lowered.{is_truth, shape_of}
-use Rattle.dc_lower.specs.Placed.{HaveNames, IsOutside, IsGroup}
+use Rattle.dc_actions.specs.Placed.{HaveNames, IsOutside, IsGroup}
 
 -- ---- what a code and a frame have of an entity
 

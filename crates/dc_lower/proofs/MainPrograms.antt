@@ -23,14 +23,15 @@ use Rattle.dc_meaning.specs.Acts.{State}
 use Rattle.dc_meaning.specs.Execution.{exec_all}
 use Rattle.dc_meaning.specs.Programs.{outsides_from, surroundings, main_computation}
 use Rattle.dc_meaning.proofs.ProgramLoops.{built-source}
-use Rattle.dc_lower.specs.Blocks.{InstrsStand, groups_of_block}
-use Rattle.dc_lower.specs.Carrying.{inside}
+use Rattle.dc_actions.specs.Deeds.{InstrsStand}
+use Rattle.dc_lower.specs.Blocks.{groups_of_block}
+use Rattle.dc_actions.specs.Carrying.{inside}
 use Rattle.dc_lower.specs.Lowerable.{IsLowerable}
 use Rattle.dc_lower.specs.Lowered.{main_code, lowered}
-use Rattle.dc_lower.specs.Placed.{HaveNames, HaveKept}
+use Rattle.dc_actions.specs.Placed.{HaveNames, HaveKept}
 use Rattle.dc_lower.proofs.MainNames.{Named, HasOutsides, named-names, main-named}
 use Rattle.dc_lower.proofs.PartLaws.{all-blocks-run}
-use Rattle.dc_lower.proofs.Placing.{get-left}
+use Rattle.dc_actions.proofs.Placing.{get-left}
 
 -- ---- groups of slots that are undefined
 

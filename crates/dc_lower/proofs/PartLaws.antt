@@ -1,24 +1,14 @@
 -- The laws of parts on which those of whole programs rest, in the form in which they are used there.
 use Rattle.std.specs.Prelude.{◌≡◌, ℕ, Bool, true}
 use Rattle.dc_code.specs.Codes.{CodeLists}
-use Rattle.dc_code.specs.Machine.{machine}
 use Rattle.dc_tree.specs.Blocks.{Items}
 use Rattle.dc_tree.specs.Entities.{Scope}
-use Rattle.dc_tree.specs.Syntax.{Tree}
 use Rattle.dc_meaning.specs.Execution.{exec_all}
-use Rattle.dc_meaning.specs.Values.{Callee, value}
+use Rattle.dc_meaning.specs.Values.{Callee}
 use Rattle.dc_lower.specs.Blocks.{part_code, block_is_lowered, texts_of_block, groups_of_block}
-use Rattle.dc_lower.specs.Carrying.{LeaveValue, RunPart}
-use Rattle.dc_lower.specs.Expressions.{value_code, is_usable}
-use Rattle.dc_lower.specs.Printing.{TextsStand}
+use Rattle.dc_lower.specs.Carrying.{RunPart}
+use Rattle.dc_actions.specs.Printing.{TextsStand}
 use Rattle.dc_lower.proofs.BlockLaws.{part-law}
-use Rattle.dc_lower.proofs.Expressions.{value-law}
-use Rattle.dc_lower.proofs.Going.{machine-goes}
-
--- The instructions of an expression leave its value.
-pub all-values-left : (code : CodeLists) (scope : Scope) (call : Callee) (line : ℕ) (tree : Tree)
-    → is_usable scope tree ≡ true → LeaveValue code scope line (value_code scope tree) (value scope call line tree)
-all-values-left code scope call line tree so at frame state names stand rest later = value-law code (machine code) (machine-goes code) scope call line at frame state tree names stand so rest later
 
 -- The instructions of a part that is a block carry it out.
 pub all-blocks-run : (code : CodeLists) (scope : Scope) (call : Callee) (next free number line : ℕ) (loops : Bool) (block : Items)

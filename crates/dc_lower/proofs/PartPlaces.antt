@@ -7,9 +7,9 @@ use Rattle.dc_code.specs.declared.instr.Instr.{Instr}
 use Rattle.dc_code.specs.declared.instr.What.{What}
 use Rattle.dc_code.specs.Codes.{starts_of_loop, place_among}
 use Rattle.dc_meaning.specs.Concurrent.{Concurrent, Surroundings}
-use Rattle.dc_lower.specs.Blocks.{lined}
+use Rattle.dc_actions.specs.Deeds.{lined}
 use Rattle.dc_lower.specs.Lowered.{header_code, body_code, loop_code, loops_code, no_slots, body_plan, plans_of_loops, construct_at, constructs_from}
-use Rattle.dc_lower.proofs.Placing.{get-left, get-right}
+use Rattle.dc_actions.proofs.Placing.{get-left, get-right}
 use Rattle.std.proofs.lemmas.List.{length-append}
 
 -- ---- parts have instructions

@@ -2,15 +2,15 @@
 use Rattle.std.proofs.Common.{◌≡◌, ℕ, suc, ◌+◌, true, cond, List, [], ◌∷◌, ◌++◌, length, None, refl, sym, ap, ◌∙◌, subst, arith}
 use Rattle.std.proofs.lemmas.Bool.{false≢true}
 use Rattle.dc_tree.specs.Blocks as trees
-use Rattle.dc_tree.specs.Blocks.{Line, Item, Items, plain, none, and_then}
+use Rattle.dc_tree.specs.Blocks.{Line, Items, plain, none, and_then}
 use Rattle.dc_form.specs.BuiltPrograms.{is_whole_scalar, is_built_block, is_built_loop, are_built_items}
 use Rattle.dc_tree.specs.Entities.{Scope, entity}
 use Rattle.dc_tree.specs.Statements as statements
-use Rattle.dc_tree.specs.Statements.{Ranging, Deed, assign, fill, Statement, act}
+use Rattle.dc_tree.specs.Statements.{Ranging, Statement}
 use Rattle.dc_meaning.specs.Concurrent.{Concurrent, Surroundings, block_scope}
 use Rattle.dc_meaning.specs.Execution.{is_concurrent, loops_in_all}
 use Rattle.dc_meaning.specs.Numbering.{concurrent_at, loop_and_inside, loops_of_all}
-use Rattle.dc_lower.proofs.Facts.{both-true}
+use Rattle.dc_actions.proofs.Facts.{both-true}
 use Rattle.dc_lower.proofs.KnownNames.{simple_loop}
 use Rattle.std.proofs.lemmas.List.{length-append}
 

@@ -12,9 +12,9 @@ use Rattle.dc_code.specs.declared.plan.Plan.{Plan}
 use Rattle.dc_code.specs.Codes.{CodeLists, starts, are_small}
 use Rattle.dc_code.specs.StackSorts.{Sorts, sorts_after}
 use Rattle.dc_code.specs.WellFormed.{PartOf, Part, parts, least_after, end_of, target_of, changes, contributes, ends_part, may_change, may_stand, MayContribute, left_at_end, PlanFits, Stands, bounds_fit, construct_fits, are_different, IsWellFormed}
-use Rattle.dc_lower.proofs.Placing.{get-left, get-right}
-use Rattle.dc_lower.proofs.Facts.{both-hold, both-true}
-use Rattle.dc_lower.proofs.Straight.{can_stand, Ground, Runs}
+use Rattle.dc_actions.proofs.Placing.{get-left, get-right}
+use Rattle.dc_actions.proofs.Facts.{both-hold, both-true}
+use Rattle.dc_actions.proofs.Straight.{can_stand, Ground, Runs}
 use Rattle.std.proofs.lemmas.List.{length-append}
 
 -- ---- the parts of a code

@@ -26,16 +26,18 @@ use Rattle.dc_meaning.specs.Concurrent.{Concurrent, Surroundings, block_scope}
 use Rattle.dc_meaning.specs.Execution.{is_concurrent, loops_in, loops_in_all}
 use Rattle.dc_meaning.specs.Programs.{surroundings, program_loops}
 use Rattle.dc_meaning.specs.Values.{array_named}
-use Rattle.dc_lower.specs.Assigning.{each_code, conversion_code, storing_code, assigned_code, slot_code, keeping_code, element_code, handing_code, filling_code}
-use Rattle.dc_lower.specs.Blocks.{lined, deed_code, says_code, item_code, block_code, part_code, texts_of_item, groups_of_item, block_is_lowered}
-use Rattle.dc_lower.specs.Expressions.{entity_code, led_code, joined_code, folding_code, operation_code, function_code, referred_code, value_code, values_code, first_code, chosen_code, further_code}
-use Rattle.dc_lower.specs.Lowerable.{loop_is_lowered, limits_are_lowered, IsLowerable}
-use Rattle.dc_lower.specs.Lowered.{step_code, limits_code, kind_of_index, header_code, body_code, loop_code, loops_code, main_code, lowered}
-use Rattle.dc_lower.specs.Printing as printing
-use Rattle.dc_lower.specs.Printing.{put_code, whole_code, items_code, printing_code}
-use Rattle.dc_lower.specs.Subscripts.{subscripts_at}
+use Rattle.dc_actions.specs.Assigning.{each_code, conversion_code, storing_code, assigned_code, slot_code, keeping_code, element_code, handing_code, filling_code}
+use Rattle.dc_actions.specs.Deeds.{lined, deed_code}
+use Rattle.dc_lower.specs.Blocks.{says_code, item_code, block_code, part_code, texts_of_item, groups_of_item, block_is_lowered}
+use Rattle.dc_actions.specs.Expressions.{entity_code, led_code, joined_code, folding_code, operation_code, function_code, referred_code, value_code, values_code, first_code, chosen_code, further_code}
+use Rattle.dc_lower.specs.Lowerable.{loop_is_lowered, IsLowerable}
+use Rattle.dc_actions.specs.Limits.{limits_are_lowered, step_code, limits_code}
+use Rattle.dc_lower.specs.Lowered.{kind_of_index, header_code, body_code, loop_code, loops_code, main_code, lowered}
+use Rattle.dc_actions.specs.Printing as printing
+use Rattle.dc_actions.specs.Printing.{put_code, whole_code, items_code}
+use Rattle.dc_actions.specs.Subscripts.{subscripts_at}
 use Rattle.dc_lower.specs.Today.{is_of_today}
-use Rattle.dc_lower.proofs.Facts.{both-hold, both-true}
+use Rattle.dc_actions.proofs.Facts.{both-hold, both-true}
 use Rattle.dc_lower.proofs.RunsOfBlocks.{one-of}
 use Rattle.dc_lower.proofs.FittingLists.{all-both}
 use Rattle.dc_lower.proofs.SimpleLoops.{all-counted}

@@ -21,13 +21,15 @@ use Rattle.dc_meaning.specs.Execution.{loops_in_all}
 use Rattle.dc_meaning.specs.Programs.{surroundings, program_loops}
 use Rattle.dc_lower.specs.Blocks.{groups_of_block}
 use Rattle.dc_lower.specs.Lowerable.{loop_is_lowered, IsLowerable, are_held_symbols}
-use Rattle.dc_lower.specs.Lowered.{limits_code, kind_of_index, loop_code, no_slots, index_group, body_plan, plans_of_loops, main_code, main_plan, lowered}
-use Rattle.dc_lower.proofs.Facts.{both-hold, both-true}
-use Rattle.dc_lower.proofs.Straight.{runs-both}
+use Rattle.dc_actions.specs.Limits.{limits_code}
+use Rattle.dc_lower.specs.Lowered.{kind_of_index, loop_code, no_slots, index_group, body_plan, plans_of_loops, main_code, main_plan, lowered}
+use Rattle.dc_actions.proofs.Facts.{both-hold, both-true}
+use Rattle.dc_actions.proofs.Straight.{runs-both}
 use Rattle.dc_lower.proofs.StraightCodes.{ground_of, IsStraight, AreStraight, straight-code-is-well-formed}
-use Rattle.dc_lower.proofs.RunsOfStatements.{HoldsNames}
-use Rattle.dc_lower.proofs.RunsOfBlocks.{block-runs, limits-runs}
-use Rattle.dc_lower.proofs.Standing.{Stand, all-stand, behind-stand}
+use Rattle.dc_actions.proofs.RunsOfStatements.{HoldsNames}
+use Rattle.dc_lower.proofs.RunsOfBlocks.{block-runs}
+use Rattle.dc_actions.proofs.RunsOfDeeds.{limits-runs}
+use Rattle.dc_actions.proofs.Standing.{Stand, all-stand, behind-stand}
 use Rattle.dc_lower.proofs.KnownNames.{KnownIn, fits-known, holds-known, all-in-main, main-known, simple_loop, indexed_scope, scope-of-block, block-known}
 use Rattle.dc_lower.proofs.LoopShapes.{no-texts}
 use Rattle.dc_lower.proofs.SimpleLoops.{AreSimple, none-entered, all-simple, all-counted}

@@ -6,7 +6,8 @@ use Rattle.dc_tree.specs.Entities.{Scope}
 use Rattle.dc_tree.specs.Statements.{Deed}
 use Rattle.dc_meaning.specs.Execution.{loops_in}
 use Rattle.dc_lower.specs.declared.blocks.Lowering.{Lowering}
-use Rattle.dc_lower.specs.Blocks.{deed_code, item_code, block_code, texts_of_deed, texts_of_item, texts_of_block, groups_of_deed, groups_of_item, groups_of_block}
+use Rattle.dc_actions.specs.Deeds.{deed_code, texts_of_deed, groups_of_deed}
+use Rattle.dc_lower.specs.Blocks.{item_code, block_code, texts_of_item, texts_of_block, groups_of_item, groups_of_block}
 
 -- A statement adds literals and groups, and has these instructions.
 pub record AddsDeed (scope : Scope) (before after : Lowering) (whats : List What) (deed : Deed) : Type 0 where

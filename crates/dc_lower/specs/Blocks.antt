@@ -1,48 +1,14 @@
 -- The instructions of blocks of assignments and output, and of the loops of a main program. This project's own.
-use Rattle.std.specs.Prelude.{◌≡◌, ℕ, ◌+◌, Bool, true, false, ◌&&◌, List, [], ◌∷◌, ◌++◌, length, map, slice_get, Some}
+use Rattle.std.specs.Prelude.{◌≡◌, ℕ, ◌+◌, Bool, true, false, ◌&&◌, List, [], ◌∷◌, ◌++◌, length, ◌||◌, if◌then◌else◌}
 use Rattle.dc_code.specs.declared.instr.Instr.{Instr}
 use Rattle.dc_code.specs.declared.instr.What.{What}
 use Rattle.dc_code.specs.declared.plan.Group.{Group}
-use Rattle.dc_code.specs.Codes.{CodeLists}
 use Rattle.dc_tree.specs.Blocks.{Item, Items, plain, loop, none, and_then}
-use Rattle.dc_tree.specs.Entities.{Scope, entity}
-use Rattle.dc_tree.specs.Statements.{Deed, assign, fill, print, Statement, act}
-use Rattle.dc_tree.specs.Typing.{sort_of_entity}
+use Rattle.dc_tree.specs.Entities.{Scope}
+use Rattle.dc_tree.specs.Statements.{Statement, act}
 use Rattle.dc_meaning.specs.Execution.{is_concurrent, loops_in}
-use Rattle.dc_lower.specs.Assigning.{assignment_code, filling_code, kept_group, all_usable, takes_values, takes_list}
-use Rattle.dc_lower.specs.Expressions.{is_usable}
-use Rattle.dc_lower.specs.Printing.{printing_code, texts_of_items, give_items}
-
--- instructions of one line
-abbrev pub lined : ℕ → List What → List Instr
-lined line whats = map (λ what. record { line = line; what = what }) whats
-
--- These instructions stand in a code from a place on.
-pub record InstrsStand (code : CodeLists) (at : ℕ) (instrs : List Instr) : Type 0 where
-  pub each : (i : ℕ) (instr : Instr) → slice_get instrs i ≡ Some instr → slice_get code.instructions (at + i) ≡ Some instr
-
--- ---- single statements, where so many texts stand before, and so many groups of slots are taken
-
-abbrev pub deed_code : Scope → (next free : ℕ) → Deed → List What
-deed_code scope next free (assign target tree) = assignment_code scope target tree
-deed_code scope next free (fill text trees) = filling_code scope free trees (entity scope text)
-deed_code scope next free (print written trees) = printing_code scope next trees
-deed_code scope next free other = []
-
-abbrev pub texts_of_deed : Deed → List (List ℕ)
-texts_of_deed (print written trees) = texts_of_items trees
-texts_of_deed other = []
-
--- The groups that are added for a statement.
-abbrev pub groups_of_deed : Scope → Deed → List Group
-groups_of_deed scope (fill text trees) = kept_group (sort_of_entity (entity scope text)) (length trees) ∷ []
-groups_of_deed scope other = []
-
-abbrev pub deed_is_lowered : Scope → Deed → Bool
-deed_is_lowered scope (assign target tree) = is_usable scope tree && takes_values scope (entity scope target.name) target.subscripts
-deed_is_lowered scope (fill text trees) = all_usable scope trees && takes_list (entity scope text) (length trees)
-deed_is_lowered scope (print written trees) = give_items scope trees
-deed_is_lowered scope other = false
+use Rattle.dc_actions.specs.Deeds.{lined, deed_code, texts_of_deed, groups_of_deed, deed_is_lowered}
+use Rattle.dc_actions.specs.Typed.{deed_is_typed}
 
 -- ---- blocks. Before an item there are so many texts, so many groups are taken, and there are so many loops.
 
@@ -103,3 +69,13 @@ block_is_lowered scope loops (and_then first rest) = item_is_lowered scope loops
 -- A block with what ends it, at the line of its end.
 abbrev pub part_code : Scope → (next free number : ℕ) → Items → (line : ℕ) → List Instr
 part_code scope next free number block line = block_code scope next free number block ++ lined line (What.End ∷ [])
+
+abbrev pub says_is_typed : Scope → Statement → Bool
+says_is_typed scope (act deed) = deed_is_typed scope deed
+says_is_typed scope other = true
+
+-- Loops are looked at by themselves.
+abbrev pub block_is_typed : Scope → Items → Bool
+block_is_typed scope none = true
+block_is_typed scope (and_then (plain line) rest) = says_is_typed scope line.says && block_is_typed scope rest
+block_is_typed scope (and_then other rest) = block_is_typed scope rest

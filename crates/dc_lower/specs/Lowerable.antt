@@ -1,30 +1,17 @@
 -- The programs whose code is made: those that are built and break no rule. This project's own.
-use Rattle.std.specs.Prelude.{◌≡◌, Bool, true, false, ◌&&◌, List, Option, Some, None, IsTrue}
+use Rattle.std.specs.Prelude.{◌≡◌, Bool, true, false, ◌&&◌, List, IsTrue}
 use Rattle.std.specs.List.{list_all}
-use Rattle.dc_int.specs.declared.kind.Kind.{Kind}
-use Rattle.dc_int.specs.Kinds.{is_of_kind}
-use Rattle.dc_int.specs.Store.{Bounds}
 use Rattle.dc_tree.specs.declared.symbols.Role as roles
 use Rattle.dc_tree.specs.declared.symbols.Symbol.{Symbol}
 use Rattle.dc_tree.specs.Blocks.{Source}
 use Rattle.dc_form.specs.BuiltPrograms.{is_built}
-use Rattle.dc_tree.specs.Entities.{Scope, main_scope}
-use Rattle.dc_tree.specs.Statements.{Ranging}
+use Rattle.dc_tree.specs.Entities.{main_scope}
 use Rattle.dc_tree.specs.Symbols.{is_sound}
-use Rattle.dc_tree.specs.Syntax.{Tree}
 use Rattle.dc_meaning.specs.Concurrent.{Concurrent, Surroundings, block_scope}
 use Rattle.dc_meaning.specs.Programs.{surroundings, program_loops}
-use Rattle.dc_lower.specs.Blocks.{block_is_lowered}
-use Rattle.dc_lower.specs.Expressions.{is_usable}
-use Rattle.dc_lower.specs.Typed.{limits_are_typed, block_is_typed}
-
-abbrev pub step_is_usable : Scope → Option Tree → Bool
-step_is_usable scope None = true
-step_is_usable scope (Some tree) = is_usable scope tree
-
-abbrev pub limits_are_lowered : Scope → Ranging → Bool
-limits_are_lowered scope ranging =
-    is_usable scope ranging.first && (is_usable scope ranging.last && (step_is_usable scope ranging.step && limits_are_typed scope ranging))
+use Rattle.dc_lower.specs.Blocks.{block_is_lowered, block_is_typed}
+use Rattle.dc_actions.specs.Typed.{are_held_bounds}
+use Rattle.dc_actions.specs.Limits.{limits_are_lowered}
 
 -- A loop with limits that can be evaluated around it, over a block that has a code.
 abbrev pub loop_is_lowered : Surroundings → Concurrent → Bool
@@ -40,9 +27,6 @@ pub record IsLowerable (symbols : List Symbol) (source : Source) : Type 0 where
   pub loops : list_all (loop_is_lowered (surroundings symbols source 0)) (program_loops symbols source 0) ≡ true
 
 -- ---- the declared bounds are numbers that an instruction holds
-
-abbrev pub are_held_bounds : Bounds → Bool
-are_held_bounds bounds = list_all (λ dimension. is_of_kind Kind.K8 dimension.0 && is_of_kind Kind.K8 dimension.1) bounds
 
 abbrev pub is_held_symbol : Symbol → Bool
 is_held_symbol symbol = by symbol.role

@@ -1,5 +1,5 @@
 -- The code of a whole program. This project's own.
-use Rattle.std.specs.Prelude.{ℕ, ◌+◌, Bool, true, false, List, [], ◌∷◌, ◌++◌, length, map, flat_map, Option, Some, None, pos}
+use Rattle.std.specs.Prelude.{ℕ, ◌+◌, Bool, true, false, List, [], ◌∷◌, ◌++◌, length, map, flat_map, None}
 use Rattle.dc_int.specs.declared.kind.Kind.{Kind}
 use Rattle.dc_int.specs.declared.variable.Shape.{Shape}
 use Rattle.dc_int.specs.Sorts.{Sort, whole, logical, kind_of}
@@ -12,13 +12,13 @@ use Rattle.dc_code.specs.declared.plan.Plan.{Plan}
 use Rattle.dc_code.specs.Codes.{CodeLists}
 use Rattle.dc_tree.specs.declared.symbols.Symbol.{Symbol}
 use Rattle.dc_tree.specs.Blocks.{Source}
-use Rattle.dc_tree.specs.Entities.{Scope, main_scope}
+use Rattle.dc_tree.specs.Entities.{main_scope}
 use Rattle.dc_tree.specs.Statements.{Ranging}
-use Rattle.dc_tree.specs.Syntax.{Tree}
 use Rattle.dc_meaning.specs.Concurrent.{Outside, Concurrent, Surroundings, index_sort, locality_of, block_scope}
 use Rattle.dc_meaning.specs.Programs.{surroundings, program_loops}
-use Rattle.dc_lower.specs.Blocks.{lined, part_code, texts_of_block, groups_of_block}
-use Rattle.dc_lower.specs.Expressions.{value_code}
+use Rattle.dc_actions.specs.Deeds.{lined}
+use Rattle.dc_lower.specs.Blocks.{part_code, texts_of_block, groups_of_block}
+use Rattle.dc_actions.specs.Limits.{limits_code}
 
 -- ---- outside variables
 
@@ -30,16 +30,6 @@ abbrev pub shape_of : Outside → Shape
 shape_of variable = record { kind = kind_of variable.sort; logical = is_truth variable.sort; elements = elements_in variable.bounds }
 
 -- ---- loops
-
--- The step of an index, which is 1 where none is written, in the kind of the index.
-abbrev pub step_code : Scope → Kind → Option Tree → List What
-step_code scope its_kind None = What.Const its_kind (pos 1) ∷ []
-step_code scope its_kind (Some tree) = value_code scope tree ++ What.Wrap its_kind ∷ []
-
--- The limits and the step, each wrapped to the kind of the index before the next is evaluated.
-abbrev pub limits_code : Scope → Kind → Ranging → List What
-limits_code scope its_kind ranging =
-    value_code scope ranging.first ++ (What.Wrap its_kind ∷ (value_code scope ranging.last ++ (What.Wrap its_kind ∷ step_code scope its_kind ranging.step)))
 
 abbrev pub kind_of_index : Concurrent → Ranging → Kind
 kind_of_index loop ranging = kind_of (index_sort loop.around loop.spec ranging)

@@ -5,15 +5,12 @@ ghost use Rattle.dc_code.specs.declared.instr.What.{What};
 ghost use Rattle.dc_tree.specs.Blocks.{item, items, items_from, plain};
 ghost use Rattle.dc_tree.specs.Statements.{deed, statement};
 ghost use Rattle.dc_lower.specs.Adding.{AddsDeed, AddsItem, AddsBlock};
-ghost use Rattle.dc_lower.specs.Blocks.{lined, part_code, texts_of_block, groups_of_block};
-ghost use Rattle.dc_lower.specs.Held.{deed_has_code, says_has_code, item_has_code, block_has_code};
-ghost use Rattle.dc_lower.specs.Naming.{scope_of, AreNamed};
+ghost use Rattle.dc_actions.specs.Deeds.{lined, deed_has_code};
+ghost use Rattle.dc_lower.specs.Blocks.{part_code, texts_of_block, groups_of_block};
+ghost use Rattle.dc_lower.specs.Held.{says_has_code, item_has_code, block_has_code};
+ghost use Rattle.dc_actions.specs.Naming.{scope_of, AreNamed};
 
-use crate::assigning::assignment;
-use crate::count::held;
-use crate::lists::filling;
-use crate::names::Names;
-use crate::printing::printing;
+use dc_actions::{Names, assignment, filling, held, output};
 use dc_code::{Group, Instr, What};
 use dc_text::{DcList, DcText, NoMemory};
 use dc_tree::{Action, Block, Node, Stmt};
@@ -71,7 +68,7 @@ impl Lowering {
             }
             Action::Print { items, .. } => {
                 let items = items.as_slice();
-                printing(alloc, names, &mut whats, &mut self.texts, items)?;
+                output(alloc, names, &mut whats, &mut self.texts, items)?;
                 Ok(whats)
             }
             _ => unreachable!(),

@@ -23,82 +23,29 @@ ghost use Rattle.dc_code.specs.WellFormed.{IsWellFormed};
 ghost use Rattle.dc_tree.specs.declared.symbols.Symbol.{Symbol};
 ghost use Rattle.dc_tree.specs.Blocks.{Items, Source};
 ghost use Rattle.dc_form.specs.BuiltPrograms.{is_built};
-ghost use Rattle.dc_tree.specs.Entities.{Scope, entity};
-ghost use Rattle.dc_tree.specs.Statements.{Name, Target};
+ghost use Rattle.dc_tree.specs.Entities.{Scope};
 ghost use Rattle.dc_tree.specs.Symbols.{is_sound};
-ghost use Rattle.dc_tree.specs.Syntax.{Tree};
-ghost use Rattle.dc_tree.specs.Typing.{sort_of_entity};
 ghost use Rattle.dc_declare.specs.Declarations.{symbols_of};
 ghost use Rattle.dc_scope.specs.Answer.{scope_findings};
 ghost use Rattle.dc_types.specs.Types.{type_findings};
-ghost use Rattle.dc_meaning.specs.Actions.{assignment, filling, printing};
 ghost use Rattle.dc_meaning.specs.Concurrent.{Concurrent};
 ghost use Rattle.dc_meaning.specs.Execution.{exec_all};
 ghost use Rattle.dc_meaning.specs.Programs.{main_computation, program_loops, program_forms};
-ghost use Rattle.dc_meaning.specs.Values.{Callee, value};
+ghost use Rattle.dc_meaning.specs.Values.{Callee};
 ghost use Rattle.dc_lower.specs.Agreeing.{SameForm, HasNoIteration};
-ghost use Rattle.dc_lower.specs.Assigning.{
-  assignment_code,
-  filling_code,
-  kept_group,
-  all_usable,
-  takes_values,
-  takes_list,
-};
 ghost use Rattle.dc_lower.specs.Blocks.{
   part_code,
   block_is_lowered,
   texts_of_block,
   groups_of_block,
 };
-ghost use Rattle.dc_lower.specs.Carrying.{LeaveValue, CarryOut, CarryOutKeeping, RunPart};
+ghost use Rattle.dc_lower.specs.Carrying.{RunPart};
 ghost use Rattle.dc_lower.specs.CodeOf.{IsCodeOf};
-ghost use Rattle.dc_lower.specs.Expressions.{value_code, is_usable};
 ghost use Rattle.dc_lower.specs.Heading.{HasHeader};
 ghost use Rattle.dc_lower.specs.Lowerable.{IsLowerable, are_held_symbols};
 ghost use Rattle.dc_lower.specs.Lowered.{lowered};
-ghost use Rattle.dc_lower.specs.Printing.{printing_code, texts_of_items, TextsStand, give_items};
+ghost use Rattle.dc_actions.specs.Printing.{TextsStand};
 ghost use Rattle.dc_lower.specs.Today.{is_of_today};
-
-/// The instructions of an expression leave its value. Its names and functions are used as the rules
-/// of names and types leave them.
-pub fn instructions_of_an_expression_leave_its_value()
-    ensures { (code : CodeLists) (scope : Scope) (call : Callee) (line : ℕ) (tree : Tree)
-        → is_usable scope tree ≡ true
-        → LeaveValue code scope line (value_code scope tree) (value scope call line tree) }
-{}
-
-/// The instructions of an assignment to a variable of the main program carry it out: the value,
-/// then the subscripts, and then each element is defined.
-pub fn instructions_of_an_assignment_carry_it_out()
-    ensures { (code : CodeLists) (scope : Scope) (call : Callee) (line : ℕ)
-        → (target : Target) (tree : Tree)
-        → is_usable scope tree ≡ true
-        → takes_values scope (entity scope target.name) target.subscripts ≡ true
-        → CarryOut code scope line (assignment_code scope target tree)
-        (assignment scope call line target tree (entity scope target.name)) }
-{}
-
-/// The instructions of `a = [list]` carry it out: all values, and then each element is defined in
-/// order. The values are kept in the slots of a group that is added for the statement.
-pub fn instructions_of_a_list_carry_it_out()
-    ensures { (code : CodeLists) (scope : Scope) (call : Callee) (line free : ℕ)
-        → (text : Name) (trees : List Tree)
-        → all_usable scope trees ≡ true → takes_list (entity scope text) (length trees) ≡ true
-        → CarryOutKeeping code scope free
-        (kept_group (sort_of_entity (entity scope text)) (length trees) ∷ []) line
-        (filling_code scope free trees (entity scope text))
-        (filling scope call line trees (entity scope text)) }
-{}
-
-/// The instructions of PRINT and WRITE carry it out: all items are evaluated, and then the line is
-/// written. The literals stand among the texts of the code from a number on.
-pub fn instructions_of_output_carry_it_out()
-    ensures { (code : CodeLists) (scope : Scope) (call : Callee) (line next : ℕ) (items : List Tree)
-        → give_items scope items ≡ true → TextsStand code next (texts_of_items items)
-        → CarryOut code scope line (printing_code scope next items)
-        (printing scope call line items) }
-{}
 
 /// The instructions of a part that is a block carry it out, and End leaves the turns: of
 /// assignments, lists and output, and of the loops of a main program, which are entered by their

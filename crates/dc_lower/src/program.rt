@@ -1,11 +1,29 @@
 //! The lists of the code of a program: the main program, and behind it the header and the block of each loop.
 
-ghost use Rattle.std.specs.Prelude.{◌≡◌, ◌≤◌, ◌+◌, ◌++◌, [], ◌∷◌, None, false, length, map, IfOk, OnOk, IsTrue};
+ghost use Rattle.std.specs.Prelude.{
+  ◌≡◌,
+  ◌≤◌,
+  ◌+◌,
+  ◌++◌,
+  [],
+  ◌∷◌,
+  None,
+  length,
+  map,
+  IfOk,
+  OnOk,
+  IsTrue,
+};
 ghost use Rattle.dc_int.specs.declared.variable.Locality.{Locality};
 ghost use Rattle.dc_entities.specs.Numbering.{numbers_of};
 ghost use Rattle.dc_sorts.specs.Standing.{index_entity};
 ghost use Rattle.dc_tree.specs.Blocks.{item, items, items_from, line_of, source_of};
-ghost use Rattle.dc_form.specs.BuiltPrograms.{are_built_symbols, is_built_loop, is_built_item, are_built_items};
+ghost use Rattle.dc_form.specs.BuiltPrograms.{
+  are_built_symbols,
+  is_built_loop,
+  is_built_item,
+  are_built_items,
+};
 ghost use Rattle.dc_tree.specs.Entities.{main_scope, with_names};
 ghost use Rattle.dc_tree.specs.Statements.{statement};
 ghost use Rattle.dc_meaning.specs.Looping.{index_name};
@@ -13,15 +31,24 @@ ghost use Rattle.dc_meaning.specs.WalkScope.{index_scope};
 ghost use Rattle.dc_lower.specs.Held.{block_has_code};
 ghost use Rattle.dc_lower.specs.Lowerable.{IsLowerable, are_held_symbols};
 ghost use Rattle.dc_lower.specs.Lowered.{lowered, no_slots};
-ghost use Rattle.dc_lower.specs.Naming.{scope_of, AreNamed};
+ghost use Rattle.dc_actions.specs.Naming.{scope_of, AreNamed};
 ghost use Rattle.dc_lower.specs.Variables.{shapes_of};
-ghost use Rattle.dc_lower.specs.Wholes.{AddsLoops, IsBegun, lists_code, loop_at, loops_at, loops_behind, inside_has_code, insides_have_code, plain_localities};
+ghost use Rattle.dc_lower.specs.Wholes.{
+  AddsLoops,
+  IsBegun,
+  lists_code,
+  loop_at,
+  loops_at,
+  loops_behind,
+  inside_has_code,
+  insides_have_code,
+  plain_localities,
+};
 
 use crate::blocks::{Lowering, part};
-use crate::count::held;
 use crate::loops::{header, index_groups, plan};
-use crate::names::Names;
 use crate::variables::{Variables, outside_variables};
+use dc_actions::{Names, held};
 use dc_code::{ConstructCode, Instr, Plan};
 use dc_entities::Numbering;
 use dc_int::{Kind, Locality, Shape};

@@ -4,7 +4,8 @@ ghost use Rattle.std.specs.Prelude.{◌≡◌, ◌≤◌, ◌++◌, [], ◌∷�
 ghost use Rattle.dc_int.specs.Sorts.{sort_with, kind_of};
 ghost use Rattle.dc_int.specs.Store.{elements_in};
 ghost use Rattle.dc_form.specs.BuiltPrograms.{is_built_symbol, role_elements, are_built_symbols};
-ghost use Rattle.dc_lower.specs.Lowerable.{are_held_bounds, is_held_symbol, are_held_symbols};
+ghost use Rattle.dc_actions.specs.Typed.{are_held_bounds};
+ghost use Rattle.dc_lower.specs.Lowerable.{is_held_symbol, are_held_symbols};
 ghost use Rattle.dc_lower.specs.Lowered.{is_truth};
 ghost use Rattle.dc_lower.specs.Variables.{shapes_of, bounds_of_all};
 

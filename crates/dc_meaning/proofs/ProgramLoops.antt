@@ -2,6 +2,7 @@
 use Rattle.std.proofs.Common.{◌≡◌, ℕ, true, false, ◌&&◌, List, [], ◌∷◌, Option, Some, None, refl, sym, ap, subst, ◌∙◌}
 use Rattle.std.specs.Prelude.{slice_get, is_some, is_none}
 use Rattle.std.proofs.lemmas.Bool.{and_parts, false≢true}
+use Rattle.dc_int.specs.declared.variable.Locality.{Locality}
 use Rattle.dc_code.specs.Loops.{Form}
 use Rattle.dc_code.specs.Troubles.{Slots}
 use Rattle.dc_tree.specs.declared.symbols.Symbol.{Symbol}
@@ -9,11 +10,17 @@ use Rattle.dc_tree.specs.Blocks.{Line, Items, Subprogram, Source}
 use Rattle.dc_form.specs.BuiltPrograms.{are_built_symbols, are_built_items, is_built_loop, is_built}
 use Rattle.dc_tree.specs.Entities.{main_scope}
 use Rattle.dc_meaning.specs.Looping.{nth_loop}
-use Rattle.dc_meaning.specs.Concurrent.{Concurrent}
-use Rattle.dc_meaning.specs.Headers.{form_of}
+use Rattle.dc_meaning.specs.Concurrent.{Outside, Concurrent, Surroundings}
+use Rattle.dc_meaning.specs.Headers.{localities_of, form_of}
 use Rattle.dc_meaning.specs.Numbering.{loops_of_all, no_loop}
 use Rattle.dc_meaning.specs.Programs.{surroundings, program_forms, program_loops}
 use Rattle.dc_meaning.proofs.Looping.{concurrent-with, LoopAt, IsLoop, loop-found, copies-form}
+
+-- Without localities of its own, all variables of a loop have unspecified locality.
+pub all-plain : (within : Surroundings) (loop : Concurrent) → loop.locality ≡ [] → (number : ℕ) (found : Option Outside) → slice_get within.outsides number ≡ found
+    → (localities_of within loop).locality number ≡ Locality.Plain
+all-plain within loop none number None is = rw is refl
+all-plain within loop none number (Some variable) is = rw (is, none) refl
 
 abbrev pub form-by : List Symbol → Source → ℕ → Slots → Option Concurrent → Form
 form-by symbols source turns around None = no_loop

@@ -14,8 +14,7 @@ use Rattle.dc_tree.specs.declared.token.Mark.{Mark}
 use Rattle.dc_tree.specs.Blocks.{Subprogram, Source}
 use Rattle.dc_tree.specs.Statements.{Name}
 use Rattle.dc_tree.specs.Statements as statements
-use Rattle.dc_meaning.proofs.Sources.{a, b, f, g, i, j, k, q, r, s, t, u, v, x, y, num, zero, one, two, three, four, nine, ten, var, of, ◌plus◌, ◌minus◌, ◌times◌, ◌over◌, joined, in_brackets, if_doing, if_set}
-use Rattle.dc_meaning.proofs.Sources.{set, set_at, print, call, from_to, concurrent, masked, counted, if_else, scalar, scalar_with, array, array_with, declared, declared_in, result, dummy, subprogram, program, program_with}
+use Rattle.dc_meaning.proofs.Sources.{a, b, f, g, i, j, k, q, r, s, t, u, v, x, y, num, zero, one, two, three, four, nine, ten, var, of, ◌plus◌, ◌minus◌, ◌times◌, ◌over◌, joined, in_brackets, if_doing, if_set, set, set_at, print, call, from_to, concurrent, masked, counted, if_else, scalar, scalar_with, array, array_with, declared, declared_in, result, dummy, subprogram, program, program_with}
 use Rattle.dc_run.proofs.Telling.{judged, limited, ordered}
 
 -- A function of one number, and a subroutine, each with the names of its scope.

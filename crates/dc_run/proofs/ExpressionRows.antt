@@ -11,8 +11,7 @@ use Rattle.dc_tree.specs.declared.token.Mark.{Mark}
 use Rattle.dc_tree.specs.declared.token.Suffix.{Suffix}
 use Rattle.dc_tree.specs.Syntax as syntax
 use Rattle.dc_tree.specs.Syntax.{Tree}
-use Rattle.dc_meaning.proofs.Sources.{a, b, f, m, n, q, t, u, num, num_of_kind, zero, one, two, three, four, nine, ten, yes, no, literal, var, of, of_kind, ◌plus◌, ◌minus◌, ◌over◌, joined, minus_of, not_of, in_brackets}
-use Rattle.dc_meaning.proofs.Sources.{set, set_at, print, numbers, truths, scalar, scalar_with, array, array_with, declared, program}
+use Rattle.dc_meaning.proofs.Sources.{a, b, f, m, n, q, t, u, num, num_of_kind, zero, one, two, three, four, nine, ten, yes, no, literal, var, of, of_kind, ◌plus◌, ◌minus◌, ◌over◌, joined, minus_of, not_of, in_brackets, set, set_at, print, numbers, truths, scalar, scalar_with, array, array_with, declared, program}
 use Rattle.dc_run.proofs.Telling.{judged}
 
 -- ---- what expressions are made of

@@ -12,9 +12,7 @@ use Rattle.dc_tree.specs.Blocks.{Item, Source}
 use Rattle.dc_tree.specs.Statements.{Name}
 use Rattle.dc_tree.specs.Statements as statements
 use Rattle.dc_tree.specs.Syntax.{Tree}
-use Rattle.dc_meaning.proofs.Sources.{a, f, i, j, n, x, num, zero, one, two, three, four, nine, ten, yes, no, var, of, ◌plus◌, ◌minus◌, ◌times◌, ◌over◌, joined, minus_of, doing, if_doing}
-use Rattle.dc_meaning.proofs.Sources.{set, set_at, print, exit, from_to, concurrent, loop_with, counted, forever, while, if_then, if_arms, arm_if, arm_else_if, arm_else, case, default, select}
-use Rattle.dc_meaning.proofs.Sources.{scalar, scalar_with, array_with, declared, declared_in, result, dummy, subprogram, program, program_with}
+use Rattle.dc_meaning.proofs.Sources.{a, f, i, j, n, x, num, zero, one, two, three, four, nine, ten, yes, no, var, of, ◌plus◌, ◌minus◌, ◌times◌, ◌over◌, joined, minus_of, doing, if_doing, set, set_at, print, exit, from_to, concurrent, loop_with, counted, forever, while, if_then, if_arms, arm_if, arm_else_if, arm_else, case, default, select, scalar, scalar_with, array_with, declared, declared_in, result, dummy, subprogram, program, program_with}
 use Rattle.dc_run.proofs.Telling.{judged, limited, ordered}
 
 abbrev i_j_and_n : List Symbol

@@ -13,8 +13,7 @@ use Rattle.dc_tree.specs.declared.symbols.Symbol.{Symbol}
 use Rattle.dc_tree.specs.declared.token.Mark.{Mark}
 use Rattle.dc_tree.specs.Blocks.{Item}
 use Rattle.dc_tree.specs.Syntax.{Tree}
-use Rattle.dc_meaning.proofs.Sources.{a, b, f, i, j, k, m, n, r, s, t, u, x, num, zero, one, two, three, four, nine, ten, var, of, ◌plus◌, ◌minus◌, ◌times◌, ◌over◌, joined, in_brackets, if_set}
-use Rattle.dc_meaning.proofs.Sources.{set, set_at, print, from_to, by_step, concurrent, masked, while, if_then, if_else, numbers, scalar, scalar_with, array, array_with, declared, declared_in, result, dummy, subprogram, program, program_with}
+use Rattle.dc_meaning.proofs.Sources.{a, b, f, i, j, k, m, n, r, s, t, u, x, num, zero, one, two, three, four, nine, ten, var, of, ◌plus◌, ◌minus◌, ◌times◌, ◌over◌, joined, in_brackets, if_set, set, set_at, print, from_to, by_step, concurrent, masked, while, if_then, if_else, numbers, scalar, scalar_with, array, array_with, declared, declared_in, result, dummy, subprogram, program, program_with}
 use Rattle.dc_run.proofs.Telling.{judged, limited}
 
 abbrev i_and_j : List Symbol

@@ -13,8 +13,7 @@ use Rattle.dc_tree.specs.declared.token.Mark.{Mark}
 use Rattle.dc_tree.specs.Blocks.{Item, Source}
 use Rattle.dc_tree.specs.Statements.{Ranging}
 use Rattle.dc_tree.specs.Syntax.{Tree}
-use Rattle.dc_meaning.proofs.Sources.{a, b, i, j, m, n, q, s, t, v, num, zero, one, two, three, four, ten, var, of, ◌plus◌, ◌minus◌, ◌times◌, ◌over◌, joined, in_brackets, minus_of}
-use Rattle.dc_meaning.proofs.Sources.{set, set_at, print, from_to, by_step, concurrent, masked, typed, numbers, truths, scalar, scalar_with, array, array_with, declared, program}
+use Rattle.dc_meaning.proofs.Sources.{a, b, i, j, m, n, q, s, t, v, num, zero, one, two, three, four, ten, var, of, ◌plus◌, ◌minus◌, ◌times◌, ◌over◌, joined, in_brackets, minus_of, set, set_at, print, from_to, by_step, concurrent, masked, typed, numbers, truths, scalar, scalar_with, array, array_with, declared, program}
 use Rattle.dc_run.proofs.Telling.{judged, ordered}
 
 abbrev a_and_i : List Symbol

@@ -15,8 +15,7 @@ use Rattle.dc_tree.specs.declared.symbols.Role.{Role}
 use Rattle.dc_tree.specs.declared.symbols.Symbol.{Symbol}
 use Rattle.dc_tree.specs.Blocks.{Item, Source}
 use Rattle.dc_meaning.specs.Programs.{program_forms, first_store}
-use Rattle.dc_meaning.proofs.Sources.{a, b, i, j, n, s, t, u, x, zero, one, two, three, four, nine, var, of, ◌plus◌, ◌minus◌, ◌times◌, ◌over◌, in_brackets}
-use Rattle.dc_meaning.proofs.Sources.{set, set_at, print, call, from_to, by_step, concurrent, counted, scalar, scalar_with, array, array_with, declared, declared_in, dummy, subprogram, program, program_with}
+use Rattle.dc_meaning.proofs.Sources.{a, b, i, j, n, s, t, u, x, zero, one, two, three, four, nine, var, of, ◌plus◌, ◌minus◌, ◌times◌, ◌over◌, in_brackets, set, set_at, print, call, from_to, by_step, concurrent, counted, scalar, scalar_with, array, array_with, declared, declared_in, dummy, subprogram, program, program_with}
 use Rattle.dc_run.proofs.Telling.{judged, ordered}
 
 -- ---- orders by number

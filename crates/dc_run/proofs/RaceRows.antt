@@ -10,8 +10,7 @@ use Rattle.dc_tree.specs.declared.symbols.Symbol.{Symbol}
 use Rattle.dc_tree.specs.declared.token.Mark.{Mark}
 use Rattle.dc_tree.specs.Blocks.{Item, Source}
 use Rattle.dc_tree.specs.Syntax.{Tree}
-use Rattle.dc_meaning.proofs.Sources.{a, b, i, k, m, t, u, v, x, y, num, zero, one, two, three, four, nine, var, of, ◌plus◌, ◌minus◌, ◌times◌, ◌over◌, joined, in_brackets}
-use Rattle.dc_meaning.proofs.Sources.{set, set_at, print, from_to, concurrent, if_else, if_arms, arm_if, arm_else_if, arm_else, numbers, scalar, scalar_with, array, array_with, declared, program}
+use Rattle.dc_meaning.proofs.Sources.{a, b, i, k, m, t, u, v, x, y, num, zero, one, two, three, four, nine, var, of, ◌plus◌, ◌minus◌, ◌times◌, ◌over◌, joined, in_brackets, set, set_at, print, from_to, concurrent, if_else, if_arms, arm_if, arm_else_if, arm_else, numbers, scalar, scalar_with, array, array_with, declared, program}
 use Rattle.dc_run.proofs.Telling.{judged}
 
 abbrev is_iteration : Tree → Tree

@@ -14,8 +14,7 @@ use Rattle.dc_tree.specs.declared.symbols.Symbol.{Symbol}
 use Rattle.dc_tree.specs.declared.token.Mark.{Mark}
 use Rattle.dc_tree.specs.Blocks.{Item, Source}
 use Rattle.dc_meaning.specs.Programs.{first_store}
-use Rattle.dc_meaning.proofs.Sources.{a, i, t, zero, one, two, three, four, var, of, ◌plus◌, ◌minus◌, ◌times◌, joined}
-use Rattle.dc_meaning.proofs.Sources.{set, set_at, print, from_to, concurrent, counted, masked, if_then, scalar, array, declared, program}
+use Rattle.dc_meaning.proofs.Sources.{a, i, t, zero, one, two, three, four, var, of, ◌plus◌, ◌minus◌, ◌times◌, joined, set, set_at, print, from_to, concurrent, counted, masked, if_then, scalar, array, declared, program}
 use Rattle.dc_run.proofs.Telling.{judged, ordered, iteration_alone}
 
 -- ---- elements of an array

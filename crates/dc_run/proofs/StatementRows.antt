@@ -10,9 +10,7 @@ use Rattle.dc_tree.specs.declared.symbols.Symbol.{Symbol}
 use Rattle.dc_tree.specs.declared.token.Mark.{Mark}
 use Rattle.dc_tree.specs.Blocks.{Source}
 use Rattle.dc_tree.specs.Statements as statements
-use Rattle.dc_meaning.proofs.Sources.{a, b, i, j, m, n, num, zero, one, two, three, four, nine, ten, yes, no, literal, var, of, ◌plus◌, ◌over◌, joined, minus_of, doing, if_doing}
-use Rattle.dc_meaning.proofs.Sources.{set, set_at, set_all, print, from_to, by_step, concurrent, counted}
-use Rattle.dc_meaning.proofs.Sources.{numbers, scalar, scalar_with, array, array_with, declared, program}
+use Rattle.dc_meaning.proofs.Sources.{a, b, i, j, m, n, num, zero, one, two, three, four, nine, ten, yes, no, literal, var, of, ◌plus◌, ◌over◌, joined, minus_of, doing, if_doing, set, set_at, set_all, print, from_to, by_step, concurrent, counted, numbers, scalar, scalar_with, array, array_with, declared, program}
 use Rattle.dc_run.proofs.Telling.{judged, limited}
 
 -- ---- assignments

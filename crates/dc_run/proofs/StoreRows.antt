@@ -9,8 +9,7 @@ use Rattle.dc_int.specs.Store.{Bounds, Variable, Store, value_at, cell_of, put_a
 use Rattle.dc_code.specs.Inner.{judging}
 use Rattle.dc_tree.specs.declared.symbols.Symbol.{Symbol}
 use Rattle.dc_tree.specs.Blocks.{Source}
-use Rattle.dc_meaning.proofs.Sources.{a, i, num, zero, one, two, three, var, ◌times◌}
-use Rattle.dc_meaning.proofs.Sources.{whole, set, set_at, print, read, from_to, concurrent, scalar, array, declared, program}
+use Rattle.dc_meaning.proofs.Sources.{a, i, num, zero, one, two, three, var, ◌times◌, whole, set, set_at, print, read, from_to, concurrent, scalar, array, declared, program}
 use Rattle.dc_run.specs.Stores.{declared_shapes, stores_of}
 
 abbrev with_cells : Bounds → List (Option ℤ) → Variable

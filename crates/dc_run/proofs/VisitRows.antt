@@ -17,8 +17,7 @@ use Rattle.dc_tree.specs.declared.symbols.Symbol.{Symbol}
 use Rattle.dc_tree.specs.declared.token.Mark.{Mark}
 use Rattle.dc_tree.specs.Blocks.{Item, Source}
 use Rattle.dc_tree.specs.Statements as statements
-use Rattle.dc_meaning.proofs.Sources.{a, i, j, n, t, zero, one, two, three, var, of, ◌plus◌, ◌minus◌, ◌over◌, joined}
-use Rattle.dc_meaning.proofs.Sources.{set_at, print, from_to, by_step, concurrent, masked, counted, if_else, if_arms, arm_if, arm_else_if, arm_else, case, default, select, scalar, scalar_with, array, declared, program}
+use Rattle.dc_meaning.proofs.Sources.{a, i, j, n, t, zero, one, two, three, var, of, ◌plus◌, ◌minus◌, ◌over◌, joined, set_at, print, from_to, by_step, concurrent, masked, counted, if_else, if_arms, arm_if, arm_else_if, arm_else, case, default, select, scalar, scalar_with, array, declared, program}
 use Rattle.dc_run.specs.Playing.{Visit, run}
 use Rattle.dc_run.specs.ReportLine.{done, outside_names, report_line}
 use Rattle.dc_run.specs.Visits.{WentOn, AllWentOn, StoppedAtLast}

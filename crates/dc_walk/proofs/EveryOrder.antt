@@ -37,8 +37,8 @@ use Rattle.dc_meaning.proofs.Own.{OwnTarget, frame-only}
 use Rattle.dc_meaning.proofs.OwnBlocks.{block-own}
 use Rattle.dc_meaning.proofs.OwnScopes.{anything, anything-own}
 use Rattle.dc_meaning.proofs.OwnShapes.{fitting, AreSorted, fitting-own}
-use Rattle.dc_meaning.proofs.ProgramLoops.{form-is, loops-in, found-at, built-source}
-use Rattle.dc_walk.proofs.Visitable.{all-plain, block-names}
+use Rattle.dc_meaning.proofs.ProgramLoops.{all-plain, form-is, loops-in, found-at, built-source}
+use Rattle.dc_walk.proofs.Visitable.{block-names}
 
 -- A loop whose variables have unspecified locality, and whose blocks do only what they may.
 record IsPlain (may : May) (form : Form) : Type 0 where
@@ -62,7 +62,7 @@ module _ (symbols : List Symbol) (source : Source) (built : is_built symbols sou
           only = λ copies values.
               frame-only may _ within.turns (exec_all scope within.call (suc at.counted) body) (λ flow left. left)
               (block-own may scope names within.call (suc at.counted) body at.built.block);
-          locality = λ i place. all-plain within symbols found refl refl place (slice_get within.outsides place) refl i;
+          locality = λ i place. all-plain within found refl place (slice_get within.outsides place) refl i;
           copied = copies-form within symbols at.counted head body at.built around;
         })
 

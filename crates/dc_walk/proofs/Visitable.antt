@@ -36,7 +36,7 @@ use Rattle.dc_meaning.proofs.Looping.{concurrent-with, LoopAt, block-form}
 use Rattle.dc_meaning.proofs.Own.{OwnEntity, OwnTarget, target-read, frame-only}
 use Rattle.dc_meaning.proofs.OwnBlocks.{block-own}
 use Rattle.dc_meaning.proofs.OwnScopes.{anything, anything-own, inner-good}
-use Rattle.dc_meaning.proofs.ProgramLoops.{form-is, loops-in, loop-at, loop-built, no-copies, built-source}
+use Rattle.dc_meaning.proofs.ProgramLoops.{all-plain, form-is, loops-in, loop-at, loop-built, no-copies, built-source}
 use Rattle.dc_walk.proofs.Passing.{loop-ends, passes-well, passes-badly}
 use Rattle.dc_meaning.proofs.Walking.{seen-run}
 
@@ -90,12 +90,8 @@ none-reduced all number (symbol ∷ rest) name = by symbol.role refl (none-reduc
     by (roles.Role.Dummy place logical kind intent) is behind others = rw is others
     by (roles.Role.Result logical kind) is behind others = rw is others
 
--- Without localities of its own, all variables of a loop have unspecified locality.
+-- No variable of such a loop is passed on.
 module _ (within : Surroundings) (symbols : List Symbol) (loop : Concurrent) (none : loop.locality ≡ []) (around : loop.around ≡ main_scope symbols) where
-  pub all-plain : (number : ℕ) (found : Option Outside) → slice_get within.outsides number ≡ found → (localities_of within loop).locality number ≡ Locality.Plain
-  all-plain number None is = rw is refl
-  all-plain number (Some variable) is = rw (is, none) refl
-
   none-passed : (number : ℕ) (found : Option Outside) → slice_get within.outsides number ≡ found → (localities_of within loop).passed number ≡ false
   none-passed number None is = rw is refl
   none-passed number (Some variable) is = rw (is, around) (none-reduced symbols 0 (symbols_in 0 symbols) variable.name)
@@ -158,7 +154,7 @@ module _ (symbols : List Symbol) (source : Source) (turns number : ℕ) (head : 
 
   plainly-by : IsPlainly (loop_parts symbols source turns number)
   plainly-by = record {
-    locality = ap (λ (f : Form). f.localities.locality) form-here ∙ (λ i place. all-plain within symbols found refl refl place (slice_get within.outsides place) refl i);
+    locality = ap (λ (f : Form). f.localities.locality) form-here ∙ (λ i place. all-plain within found refl place (slice_get within.outsides place) refl i);
     passed = ap (λ (f : Form). f.localities.passed) form-here ∙ (λ i place. none-passed within symbols found refl refl place (slice_get within.outsides place) refl i);
     orders = λ store z. ap (λ (p : Passage). p.orders) (passage-is store z ∙ through-over entering store [] (block_alone symbols source number (z ∷ []) turns) (block-plain z));
     replays = λ store z.

@@ -1,6 +1,7 @@
 -- From the report that a call wrote to the cause of its answer.
-use Rattle.std.proofs.Common.{◌≡◌, ◌≤◌, ℕ, true, false, List, take, Option, Some, None, refl, sym, ap, ◌∙◌, subst, inl, inr, arith}
-use Rattle.std.specs.Prelude.{MatchOption, IfSome, IsSome, option_map, codes, ◌⊎◌}
+use Rattle.std.proofs.Common.{◌≡◌, ◌≤◌, ℕ, true, false, List, take, Option, Some, None, Result, Ok, Err, refl, sym, ap, ◌∙◌, subst, inl, inr, arith}
+use Rattle.std.specs.Result.{result_ok}
+use Rattle.std.specs.Prelude.{MatchResult, IfSome, IsSome, option_map, codes, ◌⊎◌}
 use Rattle.dc_int.specs.declared.fault.Why.{Why}
 use Rattle.dc_code.specs.Troubles as troubles
 use Rattle.dc_code.specs.Troubles.{Trouble, masked, raced}
@@ -12,12 +13,15 @@ use Rattle.dc_run.specs.Playing as playing
 use Rattle.dc_run.specs.ReportLine as endings
 use Rattle.dc_run.specs.ReportLine.{Ending}
 use Rattle.docon.specs.Answers.{Answers}
-use Rattle.docon.specs.declared.command.Task.{Task}
+use Rattle.docon.specs.declared.request.BadWords.{BadWords}
+use Rattle.docon.specs.declared.request.Request.{Request}
+use Rattle.docon.specs.declared.request.Task.{Task}
 use Rattle.docon.specs.declared.report.Report.{Report}
-use Rattle.docon.specs.Report.{Reading, Outcome, contents, fault, file_of, task_of, read_limit, only_log, run_of, status_of_why, status_of_trouble, status_of, RunReport, CheckReport, CodeReport, RefusalReport, IsTaskReport, IsSourceReport, IsReportOf, IsReport, HasOutcome, Reported}
+use Rattle.docon.specs.Report.{Reading, Outcome, contents, fault, read_limit, only_log, run_of, status_of_why, status_of_trouble, status_of, RunReport, CheckReport, CodeReport, RefusalReport, IsTaskReport, IsSourceReport, IsReportOf, IsReport, HasOutcome, Reported}
 use Rattle.docon.specs.Room.{Fits}
+use Rattle.docon.specs.Words.{asks, AsksFor, file_of, request_of, why_bad}
 use Rattle.docon.specs.Writing.{Change, Took, Untouched, WroteAll, WritesReport, IsWritten}
-use Rattle.docon.specs.Causes.{IsAccepted, IsRefused, Gave, Tells, IsStatus, IsUnlessFailed, Ran, RanWith, Checked, Listed, EndsWithStatus, AnswersRun, AnswersAccepted, CausesOfDone, CausesOfRun, CausesOfRefused, CausesOfWords, CausesOfRead, IsCutShort, CausesOfWrite, HaveRoom, CausesOfMemory, Causes, NothingFailed, IsComplete}
+use Rattle.docon.specs.Causes.{IsAccepted, IsRefused, Gave, Tells, IsStatus, IsUnlessFailed, Ran, RanWith, Checked, Listed, EndsWithStatus, AnswersRun, AnswersAccepted, CausesOfDone, CausesOfRun, CausesOfRefused, RefusedWords, CausesOfWords, CausesOfRead, IsCutShort, CausesOfWrite, HaveRoom, CausesOfMemory, Causes, NothingFailed, IsComplete}
 
 -- the call wrote its report or gave up
 abbrev pub Wrote : {W L : Type 0} → Reading → Change W → Change L → ℕ → Type 0
@@ -50,49 +54,49 @@ ending-status endings.done = record { most = omega arith; other = λ one. omega 
 ending-status (endings.bad failure) = why-status failure.why
 ending-status (endings.stopped verdict bounds) = trouble-status (trouble_in verdict)
 
-run-status : (text : List ℕ) (report : Report) → RunReport text report → IsRunStatus report.status
-run-status text report run =
+run-status : (turns : ℕ) (text : List ℕ) (report : Report) → RunReport turns text report → IsRunStatus report.status
+run-status turns text report run =
     subst IsRunStatus (sym run.ran.status_is) (ending-status run.ran.ending)
 
 -- ---- how a call ended
 
 -- What the report of a reading is.
 pub data Kind (asked : Reading) (report : Report) : Type 0 where
-  of_words : file_of asked.words ≡ None → report ≡ only_log (codes "words: command") 5 → Kind asked report
-  of_run : (text : List ℕ) → Gave asked text → task_of asked.words ≡ Task.Run → RunReport text report → Kind asked report
-  of_check : (text : List ℕ) → Gave asked text → task_of asked.words ≡ Task.Check → CheckReport text report → Kind asked report
-  of_code : (text : List ℕ) → Gave asked text → task_of asked.words ≡ Task.Code → CodeReport text report → Kind asked report
-  of_refusal : (text : List ℕ) → Gave asked text → RefusalReport text report → Kind asked report
+  of_words : (bad : BadWords) → request_of asked.words ≡ Err bad → report ≡ only_log (why_bad bad) 5 → Kind asked report
+  of_run : (turns : ℕ) (text : List ℕ) → Gave asked (Task.Run turns) text → RunReport turns text report → Kind asked report
+  of_check : (text : List ℕ) → Gave asked Task.Check text → CheckReport text report → Kind asked report
+  of_code : (text : List ℕ) → Gave asked Task.Code text → CodeReport text report → Kind asked report
+  of_refusal : (task : Task) (text : List ℕ) → Gave asked task text → RefusalReport text report → Kind asked report
   of_fault : IsSome (file_of asked.words) → Rose asked.before asked.now → report ≡ only_log (codes "read: file") 6 → Kind asked report
 
-kind_of_task : (asked : Reading) (report : Report) (text : List ℕ) → Gave asked text → (task : Task) → task_of asked.words ≡ task → IsTaskReport task text report → Kind asked report
-kind_of_task asked report text read Task.Run asks run = of_run text read asks run
-kind_of_task asked report text read Task.Check asks check = of_check text read asks check
-kind_of_task asked report text read Task.Code asks code = of_code text read asks code
+kind_of_task : (asked : Reading) (report : Report) (text : List ℕ) (task : Task) → Gave asked task text → IsTaskReport task text report → Kind asked report
+kind_of_task asked report text (Task.Run turns) read run = of_run turns text read run
+kind_of_task asked report text Task.Check read check = of_check text read check
+kind_of_task asked report text Task.Code read code = of_code text read code
 
-kind_of_outcome : (asked : Reading) (report : Report) (file : List ℕ) → file_of asked.words ≡ Some file → (outcome : Outcome) → HasOutcome (asked.told file) asked.before asked.now outcome → IsReportOf (task_of asked.words) outcome report
-    → Kind asked report
-kind_of_outcome asked report file named (contents text) gave is =
-    let read : Gave asked text = record { file = file; named = named; gave = gave } in
-    elim is [ inl done ↦ kind_of_task asked report text read (task_of asked.words) refl done | inr refusal ↦ of_refusal text read refusal ]
-kind_of_outcome asked report file named fault rose is = of_fault (rw named refl) rose is
+kind_of_outcome : (asked : Reading) (report : Report) (request : Request) → request_of asked.words ≡ Ok request → (outcome : Outcome) → HasOutcome (asked.told request.file) asked.before asked.now outcome
+    → IsReportOf request.task outcome report → Kind asked report
+kind_of_outcome asked report request is_asked (contents text) gave is =
+    let read : Gave asked request.task text = record { file = request.file; asks = is_asked; gave = gave } in
+    elim is [ inl done ↦ kind_of_task asked report text request.task read done | inr refusal ↦ of_refusal request.task text read refusal ]
+kind_of_outcome asked report request is_asked fault rose is = of_fault (rw is_asked refl) rose is
 
-kind_of_name : (asked : Reading) (report : Report) (word : Option (List ℕ)) → file_of asked.words ≡ word → (outcome : Outcome)
-    → MatchOption word (asked.now ≡ asked.before) (λ file. HasOutcome (asked.told file) asked.before asked.now outcome)
-    → MatchOption word (report ≡ only_log (codes "words: command") 5) (λ _. IsReportOf (task_of asked.words) outcome report) → Kind asked report
-kind_of_name asked report None named outcome read is = of_words named is
-kind_of_name asked report (Some file) named outcome read is = kind_of_outcome asked report file named outcome read is
+kind_of_request : (asked : Reading) (report : Report) (wanted : Result Request BadWords) → request_of asked.words ≡ wanted → (outcome : Outcome)
+    → MatchResult wanted (λ request. HasOutcome (asked.told request.file) asked.before asked.now outcome) (λ bad. asked.now ≡ asked.before)
+    → MatchResult wanted (λ request. IsReportOf request.task outcome report) (λ bad. report ≡ only_log (why_bad bad) 5) → Kind asked report
+kind_of_request asked report (Err bad) is_bad outcome read is = of_words bad is_bad is
+kind_of_request asked report (Ok request) is_asked outcome read is = kind_of_outcome asked report request is_asked outcome read is
 
 pub kind_of : (asked : Reading) (report : Report) → Reported asked report → Kind asked report
-kind_of asked report reported = kind_of_name asked report (file_of asked.words) refl reported.outcome reported.read reported.is_report
+kind_of asked report reported = kind_of_request asked report (request_of asked.words) refl reported.outcome reported.read reported.is_report
 
 -- How a call ended, by its answer.
 pub data Ended {W L : Type 0} (asked : Reading) (out : Change W) (log : Change L) (answer : ℕ) : Type 0 where
   with_run : (ran : Ran asked out log) → Steady out log → answer ≡ ran.report.status → answer ≤ 4 → ¬ (answer ≡ 1) → Ended asked out log answer
   with_check : Checked asked out log → Steady out log → answer ≡ 0 → Ended asked out log answer
   with_code : Listed asked out log → Steady out log → answer ≡ 0 → Ended asked out log answer
-  with_refused : (text : List ℕ) → Gave asked text → IsRefused text → Steady out log → answer ≡ 1 → Ended asked out log answer
-  with_words : file_of asked.words ≡ None → Steady out log → answer ≡ 5 → Ended asked out log answer
+  with_refused : (task : Task) (text : List ℕ) → Gave asked task text → IsRefused text → Steady out log → answer ≡ 1 → Ended asked out log answer
+  with_words : (bad : BadWords) → RefusedWords bad asked.words out log → Steady out log → answer ≡ 5 → Ended asked out log answer
   with_read : IsSome (file_of asked.words) → Rose asked.before asked.now → Steady out log → answer ≡ 6 → Ended asked out log answer
   with_write : (report : Report) → Reported asked report → IsCutShort report out log → answer ≡ 7 → Ended asked out log answer
   with_memory : Untouched out → Untouched log → answer ≡ 8 → Ended asked out log answer
@@ -101,11 +105,15 @@ steady_of : {W L : Type 0} (report : Report) (out : Change W) (log : Change L) (
 steady_of report out log answer all = record { out_steady = all.out_all.steady; log_steady = all.log_all.steady }
 
 ended_whole : {W L : Type 0} (asked : Reading) (out : Change W) (log : Change L) (answer : ℕ) (report : Report) → Kind asked report → WroteAll report out log answer → Ended asked out log answer
-ended_whole asked out log answer report (of_words nameless is) all =
-    with_words nameless (steady_of report out log answer all) (all.answer_is ∙ ap (λ (x : Report). x.status) is)
-ended_whole asked out log answer report (of_check text read asks check) all =
+ended_whole asked out log answer report (of_words bad is_bad is) all =
+    let refused : RefusedWords bad asked.words out log = record {
+      refused = is_bad;
+      out_all = subst (λ (x : Report). Took out x.out) is all.out_all;
+      log_all = subst (λ (x : Report). Took log x.log) is all.log_all;
+    } in
+    with_words bad refused (steady_of report out log answer all) (all.answer_is ∙ ap (λ (x : Report). x.status) is)
+ended_whole asked out log answer report (of_check text read check) all =
     let checked : Checked asked out log = record {
-      task = asks;
       text = text;
       read = read;
       accepted = (check.program, check.symbols, check.spelled);
@@ -113,9 +121,8 @@ ended_whole asked out log answer report (of_check text read asks check) all =
       log_all = subst (λ (x : Report). Took log x.log) check.is all.log_all;
     } in
     with_check checked (steady_of report out log answer all) (all.answer_is ∙ ap (λ (x : Report). x.status) check.is)
-ended_whole asked out log answer report (of_code text read asks code) all =
+ended_whole asked out log answer report (of_code text read code) all =
     let listed : Listed asked out log = record {
-      task = asks;
       text = text;
       read = read;
       report = report;
@@ -124,9 +131,9 @@ ended_whole asked out log answer report (of_code text read asks code) all =
       log_all = all.log_all;
     } in
     with_code listed (steady_of report out log answer all) (all.answer_is ∙ code.listed.status_is)
-ended_whole asked out log answer report (of_run text read asks run) all =
+ended_whole asked out log answer report (of_run turns text read run) all =
     let ran : Ran asked out log = record {
-      task = asks;
+      turns = turns;
       text = text;
       read = read;
       report = report;
@@ -134,10 +141,10 @@ ended_whole asked out log answer report (of_run text read asks run) all =
       out_all = all.out_all;
       log_all = all.log_all;
     } in
-    let status = run-status text report run in
+    let status = run-status turns text report run in
     with_run ran (steady_of report out log answer all) all.answer_is (omega (arith, all.answer_is, status.most)) (λ one. status.other (sym all.answer_is ∙ one))
-ended_whole asked out log answer report (of_refusal text read refusal) all =
-    with_refused text read (refusal.refusal, refusal.first) (steady_of report out log answer all) (all.answer_is ∙ ap (λ (x : Report). x.status) refusal.is)
+ended_whole asked out log answer report (of_refusal task text read refusal) all =
+    with_refused task text read (refusal.refusal, refusal.first) (steady_of report out log answer all) (all.answer_is ∙ ap (λ (x : Report). x.status) refusal.is)
 ended_whole asked out log answer report (of_fault named rose is) all =
     with_read named rose (steady_of report out log answer all) (all.answer_is ∙ ap (λ (x : Report). x.status) is)
 
@@ -155,8 +162,8 @@ status_of_ended : {W L : Type 0} (asked : Reading) (out : Change W) (log : Chang
 status_of_ended asked out log answer (with_run ran steady is most other) = omega arith
 status_of_ended asked out log answer (with_check checked steady is) = omega arith
 status_of_ended asked out log answer (with_code listed steady is) = omega arith
-status_of_ended asked out log answer (with_refused text read refused steady is) = omega arith
-status_of_ended asked out log answer (with_words nameless steady is) = omega arith
+status_of_ended asked out log answer (with_refused task text read refused steady is) = omega arith
+status_of_ended asked out log answer (with_words bad line steady is) = omega arith
 status_of_ended asked out log answer (with_read named rose steady is) = omega arith
 status_of_ended asked out log answer (with_write report reported cut is) = omega arith
 status_of_ended asked out log answer (with_memory out_none log_none is) = omega arith
@@ -166,22 +173,32 @@ same_text : (limit : ℕ) (held : Option (List ℕ)) (given text : List ℕ) →
 same_text limit None given text gave tells = absurd (let no : None ≡ Some text = tells in cc)
 same_text limit (Some whole) given text gave tells = gave ∙ (let same : Some (take limit whole) ≡ Some text = tells in cc)
 
-given_is_told : (asked : Reading) (given text : List ℕ) → Gave asked given → Tells asked text → given ≡ text
-given_is_told asked given text gave tells =
-    let named : Some gave.file ≡ Some tells.file = sym gave.named ∙ tells.named in
-    let file : gave.file ≡ tells.file = cc in
+-- words ask for one task with one file
+one-request : (words : List (List ℕ)) (task other : Task) (file name : List ℕ) → AsksFor words task file → AsksFor words other name → (task ≡ other) × (file ≡ name)
+one-request words task other file name asks_this asks_that =
+    let same : asks task file ≡ asks other name = sym asks_this ∙ asks_that in
+    let requests : ◌≡◌ {A = Request} (record { task = task; file = file }) (record { task = other; file = name }) = cc in
+    (ap (λ (x : Request). x.task) requests, ap (λ (x : Request). x.file) requests)
+
+same-task : (asked : Reading) (task other : Task) (given text : List ℕ) → Gave asked task given → Tells asked other text → task ≡ other
+same-task asked task other given text gave tells = (one-request asked.words task other gave.file tells.file gave.asks tells.asks).0
+
+given_is_told : (asked : Reading) (task other : Task) (given text : List ℕ) → Gave asked task given → Tells asked other text → given ≡ text
+given_is_told asked task other given text gave tells =
+    let file = (one-request asked.words task other gave.file tells.file gave.asks tells.asks).1 in
     let told : option_map (take read_limit) (asked.told gave.file) ≡ Some text = subst (λ (x : List ℕ). option_map (take read_limit) (asked.told x) ≡ Some text) (sym file) tells.tells in
     same_text read_limit (asked.told gave.file) given text gave.gave.first told
 
-not_none : (word : Option (List ℕ)) (file : List ℕ) → word ≡ None → word ≡ Some file → ⊥
-not_none word file nameless some = let no : None ≡ Some file = sym nameless ∙ some in cc
+-- words that ask for a task aren't refused
+not_both_words : (words : List (List ℕ)) (task : Task) (file : List ℕ) (bad : BadWords) → AsksFor words task file → request_of words ≡ Err bad → ⊥
+not_both_words words task file bad asks_this is_bad = let no : asks task file ≡ Err bad = sym asks_this ∙ is_bad in cc
 
 only_run : {W L : Type 0} (status : ℕ) → status ≤ 4 → ¬ (status ≡ 1) → ¬ (status ≡ 0) → (asked : Reading) (out : Change W) (log : Change L) (answer : ℕ) → Ended asked out log answer → answer ≡ status → RanWith status asked out log
 only_run status few other some asked out log answer (with_run ran steady is most apart) same = record { ran = ran; is = sym is ∙ same }
 only_run status few other some asked out log answer (with_check checked steady is) same = absurd (some (sym same ∙ is))
 only_run status few other some asked out log answer (with_code listed steady is) same = absurd (some (sym same ∙ is))
-only_run status few other some asked out log answer (with_refused text read refused steady is) same = absurd (other (sym same ∙ is))
-only_run status few other some asked out log answer (with_words nameless steady is) same = absurd (omega arith)
+only_run status few other some asked out log answer (with_refused task text read refused steady is) same = absurd (other (sym same ∙ is))
+only_run status few other some asked out log answer (with_words bad line steady is) same = absurd (omega arith)
 only_run status few other some asked out log answer (with_read named rose steady is) same = absurd (omega arith)
 only_run status few other some asked out log answer (with_write report reported cut is) same = absurd (omega arith)
 only_run status few other some asked out log answer (with_memory out_none log_none is) same = absurd (omega arith)
@@ -190,52 +207,62 @@ only_done : {W L : Type 0} (asked : Reading) (out : Change W) (log : Change L) (
 only_done asked out log answer (with_run ran steady is most apart) same = inl (record { ran = ran; is = sym is ∙ same })
 only_done asked out log answer (with_check checked steady is) same = inr (inl checked)
 only_done asked out log answer (with_code listed steady is) same = inr (inr listed)
-only_done asked out log answer (with_refused text read refused steady is) same = absurd (omega arith)
-only_done asked out log answer (with_words nameless steady is) same = absurd (omega arith)
+only_done asked out log answer (with_refused task text read refused steady is) same = absurd (omega arith)
+only_done asked out log answer (with_words bad line steady is) same = absurd (omega arith)
 only_done asked out log answer (with_read named rose steady is) same = absurd (omega arith)
 only_done asked out log answer (with_write report reported cut is) same = absurd (omega arith)
 only_done asked out log answer (with_memory out_none log_none is) same = absurd (omega arith)
 
 -- neither a check nor a listing is a run
-check_is_no_run : ¬ (Task.Check ≡ Task.Run)
-check_is_no_run same = cc
+check_is_no_run : (turns : ℕ) → ¬ (Task.Check ≡ Task.Run turns)
+check_is_no_run turns same = cc
 
-code_is_no_run : ¬ (Task.Code ≡ Task.Run)
-code_is_no_run same = cc
+code_is_no_run : (turns : ℕ) → ¬ (Task.Code ≡ Task.Run turns)
+code_is_no_run turns same = cc
 
--- a source has one program, so its run has one status
-one_status : (text : List ℕ) (report : Report) (run : RunReport text report) (status : ℕ) → EndsWithStatus status text → report.status ≡ status
-one_status text report run status ends =
+same-turns : (turns others : ℕ) → Task.Run turns ≡ Task.Run others → turns ≡ others
+same-turns turns others same = cc
+
+-- a source has one program, so its run with these turns has one status
+one_status : (turns : ℕ) (text : List ℕ) (report : Report) (run : RunReport turns text report) (status : ℕ) → EndsWithStatus status turns text → report.status ≡ status
+one_status turns text report run status ends =
     let same = one-program text run.program ends.program run.symbols ends.symbols run.spelled ends.spelled in
     run.ran.status_is ∙ ap (λ (outcome : playing.Outcome). status_of outcome.ending) (sym run.ran.ran.is)
-    ∙ (λ i. status_of (run_of (same.1 i) (source_of (same.0 i))).ending) ∙ ends.is
+    ∙ (λ i. status_of (run_of turns (same.1 i) (source_of (same.0 i))).ending) ∙ ends.is
 
 -- A source that is refused spells no program.
 not_both : (text : List ℕ) → IsRefused text → IsAccepted text → ⊥
 not_both text refused accepted = one-answer text refused.0 accepted.0 accepted.1 refused.1 accepted.2
 
 wherever_run : {W L : Type 0} (status : ℕ) (asked : Reading) (out : Change W) (log : Change L) (answer : ℕ) → Ended asked out log answer → AnswersRun status asked answer
-wherever_run status asked out log answer (with_run ran steady is most other) asks text tells ends =
-    inl (is ∙ one_status ran.text ran.report ran.run status (subst (EndsWithStatus status) (sym (given_is_told asked ran.text text ran.read tells)) ends))
-wherever_run status asked out log answer (with_check checked steady is) asks text tells ends = absurd (check_is_no_run (sym checked.task ∙ asks))
-wherever_run status asked out log answer (with_code listed steady is) asks text tells ends = absurd (code_is_no_run (sym listed.task ∙ asks))
-wherever_run status asked out log answer (with_refused given read refused steady is) asks text tells ends =
-    absurd (not_both given refused (subst IsAccepted (sym (given_is_told asked given text read tells)) (ends.program, ends.symbols, ends.spelled)))
-wherever_run status asked out log answer (with_words nameless steady is) asks text tells ends = absurd (not_none (file_of asked.words) tells.file nameless tells.named)
-wherever_run status asked out log answer (with_read named rose steady is) asks text tells ends = absurd (tells.no_fault rose)
-wherever_run status asked out log answer (with_write report reported cut is) asks text tells ends = inr (inl is)
-wherever_run status asked out log answer (with_memory out_none log_none is) asks text tells ends = inr (inr is)
+wherever_run status asked out log answer (with_run ran steady is most other) turns text tells ends =
+    let told = given_is_told asked (Task.Run ran.turns) (Task.Run turns) ran.text text ran.read tells in
+    let more = same-turns ran.turns turns (same-task asked (Task.Run ran.turns) (Task.Run turns) ran.text text ran.read tells) in
+    let ends_so : EndsWithStatus status ran.turns text = subst (λ (t : ℕ). EndsWithStatus status t text) (sym more) ends in
+    inl (is ∙ one_status ran.turns ran.text ran.report ran.run status (subst (EndsWithStatus status ran.turns) (sym told) ends_so))
+wherever_run status asked out log answer (with_check checked steady is) turns text tells ends =
+    absurd (check_is_no_run turns (same-task asked Task.Check (Task.Run turns) checked.text text checked.read tells))
+wherever_run status asked out log answer (with_code listed steady is) turns text tells ends =
+    absurd (code_is_no_run turns (same-task asked Task.Code (Task.Run turns) listed.text text listed.read tells))
+wherever_run status asked out log answer (with_refused task given read refused steady is) turns text tells ends =
+    absurd (not_both given refused (subst IsAccepted (sym (given_is_told asked task (Task.Run turns) given text read tells)) (ends.program, ends.symbols, ends.spelled)))
+wherever_run status asked out log answer (with_words bad line steady is) turns text tells ends = absurd (not_both_words asked.words (Task.Run turns) tells.file bad tells.asks line.refused)
+wherever_run status asked out log answer (with_read named rose steady is) turns text tells ends = absurd (tells.no_fault rose)
+wherever_run status asked out log answer (with_write report reported cut is) turns text tells ends = inr (inl is)
+wherever_run status asked out log answer (with_memory out_none log_none is) turns text tells ends = inr (inr is)
 
-wherever_accepted : {W L : Type 0} (task : Task) → ¬ (task ≡ Task.Run) → (asked : Reading) (out : Change W) (log : Change L) (answer : ℕ) → Ended asked out log answer → AnswersAccepted task asked answer
-wherever_accepted task apart asked out log answer (with_run ran steady is most other) asks text tells accepted = absurd (apart (sym asks ∙ ran.task))
-wherever_accepted task apart asked out log answer (with_check checked steady is) asks text tells accepted = inl is
-wherever_accepted task apart asked out log answer (with_code listed steady is) asks text tells accepted = inl is
-wherever_accepted task apart asked out log answer (with_refused given read refused steady is) asks text tells accepted =
-    absurd (not_both given refused (subst IsAccepted (sym (given_is_told asked given text read tells)) accepted))
-wherever_accepted task apart asked out log answer (with_words nameless steady is) asks text tells accepted = absurd (not_none (file_of asked.words) tells.file nameless tells.named)
-wherever_accepted task apart asked out log answer (with_read named rose steady is) asks text tells accepted = absurd (tells.no_fault rose)
-wherever_accepted task apart asked out log answer (with_write report reported cut is) asks text tells accepted = inr (inl is)
-wherever_accepted task apart asked out log answer (with_memory out_none log_none is) asks text tells accepted = inr (inr is)
+wherever_accepted : {W L : Type 0} (task : Task) → ((turns : ℕ) → ¬ (task ≡ Task.Run turns)) → (asked : Reading) (out : Change W) (log : Change L) (answer : ℕ) → Ended asked out log answer
+    → AnswersAccepted task asked answer
+wherever_accepted task apart asked out log answer (with_run ran steady is most other) text tells accepted =
+    absurd (apart ran.turns (sym (same-task asked (Task.Run ran.turns) task ran.text text ran.read tells)))
+wherever_accepted task apart asked out log answer (with_check checked steady is) text tells accepted = inl is
+wherever_accepted task apart asked out log answer (with_code listed steady is) text tells accepted = inl is
+wherever_accepted task apart asked out log answer (with_refused other given read refused steady is) text tells accepted =
+    absurd (not_both given refused (subst IsAccepted (sym (given_is_told asked other task given text read tells)) accepted))
+wherever_accepted task apart asked out log answer (with_words bad line steady is) text tells accepted = absurd (not_both_words asked.words task tells.file bad tells.asks line.refused)
+wherever_accepted task apart asked out log answer (with_read named rose steady is) text tells accepted = absurd (tells.no_fault rose)
+wherever_accepted task apart asked out log answer (with_write report reported cut is) text tells accepted = inr (inl is)
+wherever_accepted task apart asked out log answer (with_memory out_none log_none is) text tells accepted = inr (inr is)
 
 pub causes_run : {W L : Type 0} (status : ℕ) → status ≤ 4 → ¬ (status ≡ 1) → ¬ (status ≡ 0) → (asked : Reading) (out : Change W) (log : Change L) (answer : ℕ) → Wrote asked out log answer → CausesOfRun status asked out log answer
 causes_run status few other some asked out log answer wrote =
@@ -252,60 +279,67 @@ causes_done asked out log answer wrote =
       wherever_code = wherever_accepted Task.Code code_is_no_run asked out log answer end;
     }
 
-only_refused : {W L : Type 0} (asked : Reading) (out : Change W) (log : Change L) (answer : ℕ) → Ended asked out log answer → answer ≡ 1 → (text : List ℕ) × Gave asked text × IsRefused text
+only_refused : {W L : Type 0} (asked : Reading) (out : Change W) (log : Change L) (answer : ℕ) → Ended asked out log answer → answer ≡ 1
+    → (task : Task) × (text : List ℕ) × Gave asked task text × IsRefused text
 only_refused asked out log answer (with_run ran steady is most other) one = absurd (other one)
 only_refused asked out log answer (with_check checked steady is) one = absurd (omega arith)
 only_refused asked out log answer (with_code listed steady is) one = absurd (omega arith)
-only_refused asked out log answer (with_refused text read refused steady is) one = (text, read, refused)
-only_refused asked out log answer (with_words nameless steady is) one = absurd (omega arith)
+only_refused asked out log answer (with_refused task text read refused steady is) one = (task, text, read, refused)
+only_refused asked out log answer (with_words bad line steady is) one = absurd (omega arith)
 only_refused asked out log answer (with_read named rose steady is) one = absurd (omega arith)
 only_refused asked out log answer (with_write report reported cut is) one = absurd (omega arith)
 only_refused asked out log answer (with_memory out_none log_none is) one = absurd (omega arith)
 
-wherever_refused : {W L : Type 0} (asked : Reading) (out : Change W) (log : Change L) (answer : ℕ) → Ended asked out log answer → (text : List ℕ) → Tells asked text → IsRefused text → IsUnlessFailed 1 answer
-wherever_refused asked out log answer (with_run ran steady is most other) text tells refused =
-    absurd (not_both text refused (subst IsAccepted (given_is_told asked ran.text text ran.read tells) (ran.run.program, ran.run.symbols, ran.run.spelled)))
-wherever_refused asked out log answer (with_check checked steady is) text tells refused =
-    absurd (not_both text refused (subst IsAccepted (given_is_told asked checked.text text checked.read tells) checked.accepted))
-wherever_refused asked out log answer (with_code listed steady is) text tells refused =
-    absurd (not_both text refused (subst IsAccepted (given_is_told asked listed.text text listed.read tells) (listed.code.program, listed.code.symbols, listed.code.spelled)))
-wherever_refused asked out log answer (with_refused given read others steady is) text tells refused = inl is
-wherever_refused asked out log answer (with_words nameless steady is) text tells refused = absurd (not_none (file_of asked.words) tells.file nameless tells.named)
-wherever_refused asked out log answer (with_read named rose steady is) text tells refused = absurd (tells.no_fault rose)
-wherever_refused asked out log answer (with_write report reported cut is) text tells refused = inr (inl is)
-wherever_refused asked out log answer (with_memory out_none log_none is) text tells refused = inr (inr is)
+wherever_refused : {W L : Type 0} (asked : Reading) (out : Change W) (log : Change L) (answer : ℕ) → Ended asked out log answer → (task : Task) (text : List ℕ) → Tells asked task text → IsRefused text
+    → IsUnlessFailed 1 answer
+wherever_refused asked out log answer (with_run ran steady is most other) task text tells refused =
+    absurd (not_both text refused (subst IsAccepted (given_is_told asked (Task.Run ran.turns) task ran.text text ran.read tells) (ran.run.program, ran.run.symbols, ran.run.spelled)))
+wherever_refused asked out log answer (with_check checked steady is) task text tells refused =
+    absurd (not_both text refused (subst IsAccepted (given_is_told asked Task.Check task checked.text text checked.read tells) checked.accepted))
+wherever_refused asked out log answer (with_code listed steady is) task text tells refused =
+    absurd (not_both text refused (subst IsAccepted (given_is_told asked Task.Code task listed.text text listed.read tells) (listed.code.program, listed.code.symbols, listed.code.spelled)))
+wherever_refused asked out log answer (with_refused other given read others steady is) task text tells refused = inl is
+wherever_refused asked out log answer (with_words bad line steady is) task text tells refused = absurd (not_both_words asked.words task tells.file bad tells.asks line.refused)
+wherever_refused asked out log answer (with_read named rose steady is) task text tells refused = absurd (tells.no_fault rose)
+wherever_refused asked out log answer (with_write report reported cut is) task text tells refused = inr (inl is)
+wherever_refused asked out log answer (with_memory out_none log_none is) task text tells refused = inr (inr is)
 
 pub causes_refused : {W L : Type 0} (asked : Reading) (out : Change W) (log : Change L) (answer : ℕ) → Wrote asked out log answer → CausesOfRefused asked answer
 causes_refused asked out log answer wrote =
     let end = ended asked out log answer wrote in
     record { only = only_refused asked out log answer end; wherever = wherever_refused asked out log answer end }
 
-only_words : {W L : Type 0} (asked : Reading) (out : Change W) (log : Change L) (answer : ℕ) → Ended asked out log answer → answer ≡ 5 → file_of asked.words ≡ None
+only_words : {W L : Type 0} (asked : Reading) (out : Change W) (log : Change L) (answer : ℕ) → Ended asked out log answer → answer ≡ 5
+    → (bad : BadWords) × RefusedWords bad asked.words out log
 only_words asked out log answer (with_run ran steady is most other) five = absurd (omega arith)
 only_words asked out log answer (with_check checked steady is) five = absurd (omega arith)
 only_words asked out log answer (with_code listed steady is) five = absurd (omega arith)
-only_words asked out log answer (with_refused text read refused steady is) five = absurd (omega arith)
-only_words asked out log answer (with_words nameless steady is) five = nameless
+only_words asked out log answer (with_refused task text read refused steady is) five = absurd (omega arith)
+only_words asked out log answer (with_words bad line steady is) five = (bad, line)
 only_words asked out log answer (with_read named rose steady is) five = absurd (omega arith)
 only_words asked out log answer (with_write report reported cut is) five = absurd (omega arith)
 only_words asked out log answer (with_memory out_none log_none is) five = absurd (omega arith)
 
--- a word that is there is not absent
-not_some : (word : Option (List ℕ)) → word ≡ None → IsSome word → ⊥
+-- words that are refused name no file
+no-file-named : (words : List (List ℕ)) (bad : BadWords) → request_of words ≡ Err bad → file_of words ≡ None
+no-file-named words bad is_bad = rw is_bad refl
+
+-- a file that is there is not absent
+not_some : (file : Option (List ℕ)) → file ≡ None → IsSome file → ⊥
 not_some None nameless some = let no : false ≡ true = some in cc
-not_some (Some file) nameless some = let no : Some file ≡ None = nameless in cc
+not_some (Some name) nameless some = let no : Some name ≡ None = nameless in cc
 
-wherever_words : {W L : Type 0} (asked : Reading) (out : Change W) (log : Change L) (answer : ℕ) → Ended asked out log answer → file_of asked.words ≡ None → IsUnlessFailed 5 answer
-wherever_words asked out log answer (with_run ran steady is most other) nameless = absurd (not_none (file_of asked.words) ran.read.file nameless ran.read.named)
-wherever_words asked out log answer (with_check checked steady is) nameless = absurd (not_none (file_of asked.words) checked.read.file nameless checked.read.named)
-wherever_words asked out log answer (with_code listed steady is) nameless = absurd (not_none (file_of asked.words) listed.read.file nameless listed.read.named)
-wherever_words asked out log answer (with_refused text read refused steady is) nameless = absurd (not_none (file_of asked.words) read.file nameless read.named)
-wherever_words asked out log answer (with_words same steady is) nameless = inl is
-wherever_words asked out log answer (with_read named rose steady is) nameless = absurd (not_some (file_of asked.words) nameless named)
-wherever_words asked out log answer (with_write report reported cut is) nameless = inr (inl is)
-wherever_words asked out log answer (with_memory out_none log_none is) nameless = inr (inr is)
+wherever_words : {W L : Type 0} (asked : Reading) (out : Change W) (log : Change L) (answer : ℕ) → Ended asked out log answer → (bad : BadWords) → request_of asked.words ≡ Err bad → IsUnlessFailed 5 answer
+wherever_words asked out log answer (with_run ran steady is most other) bad is_bad = absurd (not_both_words asked.words (Task.Run ran.turns) ran.read.file bad ran.read.asks is_bad)
+wherever_words asked out log answer (with_check checked steady is) bad is_bad = absurd (not_both_words asked.words Task.Check checked.read.file bad checked.read.asks is_bad)
+wherever_words asked out log answer (with_code listed steady is) bad is_bad = absurd (not_both_words asked.words Task.Code listed.read.file bad listed.read.asks is_bad)
+wherever_words asked out log answer (with_refused task text read refused steady is) bad is_bad = absurd (not_both_words asked.words task read.file bad read.asks is_bad)
+wherever_words asked out log answer (with_words same line steady is) bad is_bad = inl is
+wherever_words asked out log answer (with_read named rose steady is) bad is_bad = absurd (not_some (file_of asked.words) (no-file-named asked.words bad is_bad) named)
+wherever_words asked out log answer (with_write report reported cut is) bad is_bad = inr (inl is)
+wherever_words asked out log answer (with_memory out_none log_none is) bad is_bad = inr (inr is)
 
-pub causes_words : {W L : Type 0} (asked : Reading) (out : Change W) (log : Change L) (answer : ℕ) → Wrote asked out log answer → CausesOfWords asked.words answer
+pub causes_words : {W L : Type 0} (asked : Reading) (out : Change W) (log : Change L) (answer : ℕ) → Wrote asked out log answer → CausesOfWords asked.words out log answer
 causes_words asked out log answer wrote =
     let end = ended asked out log answer wrote in
     record { only = only_words asked out log answer end; wherever = wherever_words asked out log answer end }
@@ -314,8 +348,8 @@ only_read : {W L : Type 0} (asked : Reading) (out : Change W) (log : Change L) (
 only_read asked out log answer (with_run ran steady is most other) six = absurd (omega arith)
 only_read asked out log answer (with_check checked steady is) six = absurd (omega arith)
 only_read asked out log answer (with_code listed steady is) six = absurd (omega arith)
-only_read asked out log answer (with_refused text read refused steady is) six = absurd (omega arith)
-only_read asked out log answer (with_words nameless steady is) six = absurd (omega arith)
+only_read asked out log answer (with_refused task text read refused steady is) six = absurd (omega arith)
+only_read asked out log answer (with_words bad line steady is) six = absurd (omega arith)
 only_read asked out log answer (with_read named rose steady is) six = (named, rose)
 only_read asked out log answer (with_write report reported cut is) six = absurd (omega arith)
 only_read asked out log answer (with_memory out_none log_none is) six = absurd (omega arith)
@@ -324,8 +358,8 @@ wherever_read : {W L : Type 0} (asked : Reading) (out : Change W) (log : Change 
 wherever_read asked out log answer (with_run ran steady is most other) unread moved = absurd (moved ran.read.gave.steady)
 wherever_read asked out log answer (with_check checked steady is) unread moved = absurd (moved checked.read.gave.steady)
 wherever_read asked out log answer (with_code listed steady is) unread moved = absurd (moved listed.read.gave.steady)
-wherever_read asked out log answer (with_refused text read refused steady is) unread moved = absurd (moved read.gave.steady)
-wherever_read asked out log answer (with_words nameless steady is) unread moved = absurd (moved (unread nameless))
+wherever_read asked out log answer (with_refused task text read refused steady is) unread moved = absurd (moved read.gave.steady)
+wherever_read asked out log answer (with_words bad line steady is) unread moved = absurd (moved (unread (no-file-named asked.words bad line.refused)))
 wherever_read asked out log answer (with_read named rose steady is) unread moved = inl is
 wherever_read asked out log answer (with_write report reported cut is) unread moved = inr (inl is)
 wherever_read asked out log answer (with_memory out_none log_none is) unread moved = inr (inr is)
@@ -340,8 +374,8 @@ only_write : {W L : Type 0} (asked : Reading) (out : Change W) (log : Change L) 
 only_write asked out log answer (with_run ran steady is most other) seven = absurd (omega arith)
 only_write asked out log answer (with_check checked steady is) seven = absurd (omega arith)
 only_write asked out log answer (with_code listed steady is) seven = absurd (omega arith)
-only_write asked out log answer (with_refused text read refused steady is) seven = absurd (omega arith)
-only_write asked out log answer (with_words nameless steady is) seven = absurd (omega arith)
+only_write asked out log answer (with_refused task text read refused steady is) seven = absurd (omega arith)
+only_write asked out log answer (with_words bad line steady is) seven = absurd (omega arith)
 only_write asked out log answer (with_read named rose steady is) seven = absurd (omega arith)
 only_write asked out log answer (with_write report reported cut is) seven = (report, reported, cut)
 only_write asked out log answer (with_memory out_none log_none is) seven = absurd (omega arith)
@@ -350,8 +384,8 @@ wherever_write : {W L : Type 0} (asked : Reading) (out : Change W) (log : Change
 wherever_write asked out log answer (with_run ran steady is most other) moved = absurd (moved steady)
 wherever_write asked out log answer (with_check checked steady is) moved = absurd (moved steady)
 wherever_write asked out log answer (with_code listed steady is) moved = absurd (moved steady)
-wherever_write asked out log answer (with_refused text read refused steady is) moved = absurd (moved steady)
-wherever_write asked out log answer (with_words nameless steady is) moved = absurd (moved steady)
+wherever_write asked out log answer (with_refused task text read refused steady is) moved = absurd (moved steady)
+wherever_write asked out log answer (with_words bad line steady is) moved = absurd (moved steady)
 wherever_write asked out log answer (with_read named rose steady is) moved = absurd (moved steady)
 wherever_write asked out log answer (with_write report reported cut is) moved = is
 wherever_write asked out log answer (with_memory out_none log_none is) moved =
@@ -361,8 +395,8 @@ only_memory : {W L : Type 0} (asked : Reading) (out : Change W) (log : Change L)
 only_memory asked out log answer (with_run ran steady is most other) = λ eight. absurd (omega arith)
 only_memory asked out log answer (with_check checked steady is) = λ eight. absurd (omega arith)
 only_memory asked out log answer (with_code listed steady is) = λ eight. absurd (omega arith)
-only_memory asked out log answer (with_refused text read refused steady is) = λ eight. absurd (omega arith)
-only_memory asked out log answer (with_words nameless steady is) = λ eight. absurd (omega arith)
+only_memory asked out log answer (with_refused task text read refused steady is) = λ eight. absurd (omega arith)
+only_memory asked out log answer (with_words bad line steady is) = λ eight. absurd (omega arith)
 only_memory asked out log answer (with_read named rose steady is) = λ eight. absurd (omega arith)
 only_memory asked out log answer (with_write report reported cut is) = λ eight. absurd (omega arith)
 only_memory asked out log answer (with_memory out_none log_none is) = λ eight. (out_none, log_none)
@@ -380,13 +414,13 @@ told_outcome task report held before now text no_fault tells (contents given) ga
     subst (λ (x : List ℕ). IsSourceReport task x report) (same_text read_limit held given text gave.first tells) is
 told_outcome task report held before now text no_fault tells fault rose is = absurd (no_fault rose)
 
-told_report : (asked : Reading) (report : Report) (text : List ℕ) → ¬ (Rose asked.before asked.now) → (word : Option (List ℕ))
-    → IfSome word (λ file. option_map (take read_limit) (asked.told file) ≡ Some text) → (outcome : Outcome)
-    → MatchOption word (asked.now ≡ asked.before) (λ file. HasOutcome (asked.told file) asked.before asked.now outcome)
-    → MatchOption word (report ≡ only_log (codes "words: command") 5) (λ _. IsReportOf (task_of asked.words) outcome report)
-    → MatchOption word (report ≡ only_log (codes "words: command") 5) (λ _. IsReportOf (task_of asked.words) (contents text) report)
-told_report asked report text no_fault None tells outcome read is = is
-told_report asked report text no_fault (Some file) tells outcome read is = told_outcome (task_of asked.words) report (asked.told file) asked.before asked.now text no_fault tells outcome read is
+told_report : (asked : Reading) (report : Report) (text : List ℕ) → ¬ (Rose asked.before asked.now) → (wanted : Result Request BadWords)
+    → IfSome (option_map (λ (request : Request). request.file) (result_ok wanted)) (λ file. option_map (take read_limit) (asked.told file) ≡ Some text) → (outcome : Outcome)
+    → MatchResult wanted (λ request. HasOutcome (asked.told request.file) asked.before asked.now outcome) (λ bad. asked.now ≡ asked.before)
+    → MatchResult wanted (λ request. IsReportOf request.task outcome report) (λ bad. report ≡ only_log (why_bad bad) 5)
+    → MatchResult wanted (λ request. IsReportOf request.task (contents text) report) (λ bad. report ≡ only_log (why_bad bad) 5)
+told_report asked report text no_fault (Err bad) tells outcome read is = is
+told_report asked report text no_fault (Ok request) tells outcome read is = told_outcome request.task report (asked.told request.file) asked.before asked.now text no_fault tells outcome read is
 
 complete_written : {W L : Type 0} (asked : Reading) (out : Change W) (log : Change L) (answer : ℕ) (report : Report) (text : List ℕ) → IsReport asked.words (contents text) report
     → IsWritten report out log answer → NothingFailed asked out log text → WroteAll report out log answer
@@ -398,16 +432,16 @@ pub complete : {W L : Type 0} (asked : Reading) (out : Change W) (log : Change L
 complete asked out log answer (inl gave_up) = λ text quiet. inl gave_up
 complete asked out log answer (inr wrote) =
     λ text quiet.
-    let is = told_report asked wrote.0 text quiet.files_no_fault (file_of asked.words) quiet.tells wrote.1.outcome wrote.1.read wrote.1.is_report in
+    let is = told_report asked wrote.0 text quiet.files_no_fault (request_of asked.words) quiet.tells wrote.1.outcome wrote.1.read wrote.1.is_report in
     inr (wrote.0, is, complete_written asked out log answer wrote.0 text is wrote.2 quiet)
 
 -- no report has the status of a failed write
 not_seven_kind : (asked : Reading) (report : Report) → Kind asked report → ¬ (report.status ≡ 7)
-not_seven_kind asked report (of_words nameless is) = λ seven. absurd (let same : report.status ≡ 5 = ap (λ (x : Report). x.status) is in omega arith)
-not_seven_kind asked report (of_check text read asks check) = λ seven. absurd (let same : report.status ≡ 0 = ap (λ (x : Report). x.status) check.is in omega arith)
-not_seven_kind asked report (of_code text read asks code) = λ seven. absurd (let same : report.status ≡ 0 = code.listed.status_is in omega arith)
-not_seven_kind asked report (of_run text read asks run) = λ seven. absurd (let most : report.status ≤ 4 = (run-status text report run).most in omega arith)
-not_seven_kind asked report (of_refusal text read refusal) = λ seven. absurd (let same : report.status ≡ 1 = ap (λ (x : Report). x.status) refusal.is in omega arith)
+not_seven_kind asked report (of_words bad is_bad is) = λ seven. absurd (let same : report.status ≡ 5 = ap (λ (x : Report). x.status) is in omega arith)
+not_seven_kind asked report (of_check text read check) = λ seven. absurd (let same : report.status ≡ 0 = ap (λ (x : Report). x.status) check.is in omega arith)
+not_seven_kind asked report (of_code text read code) = λ seven. absurd (let same : report.status ≡ 0 = code.listed.status_is in omega arith)
+not_seven_kind asked report (of_run turns text read run) = λ seven. absurd (let most : report.status ≤ 4 = (run-status turns text report run).most in omega arith)
+not_seven_kind asked report (of_refusal task text read refusal) = λ seven. absurd (let same : report.status ≡ 1 = ap (λ (x : Report). x.status) refusal.is in omega arith)
 not_seven_kind asked report (of_fault named rose is) = λ seven. absurd (let same : report.status ≡ 6 = ap (λ (x : Report). x.status) is in omega arith)
 
 pub not_seven : (asked : Reading) (report : Report) → Reported asked report → ¬ (report.status ≡ 7)

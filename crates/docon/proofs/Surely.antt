@@ -1,12 +1,16 @@
 -- Over files that never fail, and with room in the sinks.
-use Rattle.std.proofs.Common.{◌≡◌, ℕ, List, take, [], Option, Some, None, subst, inl, inr, arith}
-use Rattle.std.specs.Prelude.{MatchOption, unwrap_or, codes}
+use Rattle.std.proofs.Common.{◌≡◌, ℕ, List, take, [], Some, Result, Ok, Err, subst, inl, inr, arith}
+use Rattle.std.specs.Prelude.{MatchResult, option_map, unwrap_or}
+use Rattle.std.specs.Result.{result_ok}
 use Rattle.dc_outer.specs.Causes.{Rose}
 use Rattle.dc_outer.specs.Memory.{SureSink, held_or_empty}
 use Rattle.docon.specs.declared.report.Report.{Report}
+use Rattle.docon.specs.declared.request.BadWords.{BadWords}
+use Rattle.docon.specs.declared.request.Request.{Request}
 use Rattle.docon.specs.Answers.{Answers}
-use Rattle.docon.specs.Report.{Reading, reading, Outcome, contents, fault, file_of, task_of, read_limit, only_log, IsSourceReport, IsReportOf, HasOutcome, Reported}
+use Rattle.docon.specs.Report.{Reading, reading, Outcome, contents, fault, read_limit, only_log, IsSourceReport, IsReportOf, HasOutcome, Reported}
 use Rattle.docon.specs.Sure.{sure_told, no_faults, sure_change, IsSureReport, HasSureRoom, WritesSurely}
+use Rattle.docon.specs.Words.{request_of, why_bad}
 use Rattle.docon.specs.Writing.{IsWritten, WritesReport}
 
 no-rise : Rose 0 0 → ⊥
@@ -16,15 +20,18 @@ module _ (words : List (List ℕ)) (files files' : List (List ℕ × List ℕ)) 
   abbrev asked : Reading
   asked = reading words sure_told no_faults files files'
 
-  sure-word : (word : Option (List ℕ)) (outcome : Outcome) (report : Report) → MatchOption word (asked.now ≡ asked.before) (λ file. HasOutcome (Some (held_or_empty files file)) 0 0 outcome)
-      → MatchOption word (report ≡ only_log (codes "words: command") 5) (λ _. IsReportOf (task_of words) outcome report)
-      → MatchOption word (report ≡ only_log (codes "words: command") 5) (λ _. IsReportOf (task_of words) (contents (take read_limit (held_or_empty files (unwrap_or word [])))) report)
-  sure-word None outcome report read is = is
-  sure-word (Some file) (contents text) report read is = subst (λ (x : List ℕ). IsSourceReport (task_of words) x report) read.first is
-  sure-word (Some file) fault report rose is = absurd (no-rise rose)
+  sure-request : (wanted : Result Request BadWords) (outcome : Outcome) (report : Report)
+      → MatchResult wanted (λ request. HasOutcome (Some (held_or_empty files request.file)) 0 0 outcome) (λ bad. asked.now ≡ asked.before)
+      → MatchResult wanted (λ request. IsReportOf request.task outcome report) (λ bad. report ≡ only_log (why_bad bad) 5)
+      → MatchResult wanted
+      (λ request. IsReportOf request.task (contents (take read_limit (held_or_empty files (unwrap_or (option_map (λ (x : Request). x.file) (result_ok wanted)) [])))) report)
+      (λ bad. report ≡ only_log (why_bad bad) 5)
+  sure-request (Err bad) outcome report read is = is
+  sure-request (Ok request) (contents text) report read is = subst (λ (x : List ℕ). IsSourceReport request.task x report) read.first is
+  sure-request (Ok request) fault report rose is = absurd (no-rise rose)
 
   sure-report : (report : Report) → Reported asked report → IsSureReport words files report
-  sure-report report reported = sure-word (file_of words) reported.outcome report reported.read reported.is_report
+  sure-report report reported = sure-request (request_of words) reported.outcome report reported.read reported.is_report
 
   module _ (out out' log log' : SureSink) (answer : ℕ) where
     pub never-six : Answers asked (sure_change out out') (sure_change log log') answer → ¬ (answer ≡ 6)

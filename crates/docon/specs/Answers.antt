@@ -1,7 +1,8 @@
 -- What a call of `docon` answers, and what it leaves as it was. This project's own.
 use Rattle.std.specs.Prelude.{◌≡◌, ℕ, ◌≤◌, List, Option, None}
 use Rattle.docon.specs.Causes.{Causes, IsComplete}
-use Rattle.docon.specs.Report.{Reading, file_of}
+use Rattle.docon.specs.Report.{Reading}
+use Rattle.docon.specs.Words.{file_of}
 use Rattle.docon.specs.Writing.{Change, WritesReport}
 
 -- The report of what was read was written, to out and then to the log, and its status is answered; or only a
@@ -12,8 +13,8 @@ pub record Answers {W L : Type 0} (asked : Reading) (out : Change W) (log : Chan
   pub causes : Causes asked out log answer
   pub complete : IsComplete asked out log answer
 
--- What the files tell is unchanged, and their count of faults doesn't fall. Without a file that the words name
--- they are as they were.
+-- What the files tell is unchanged, and their count of faults doesn't fall. Without a file that the words name,
+-- where they are refused, the files are as they were.
 pub record KeepsFiles {F : Type 0} (words : List (List ℕ)) (told : F → List ℕ → Option (List ℕ)) (faults : F → ℕ) (before now : F) : Type 0 where
   pub held : told now ≡ told before
   pub count : faults before ≤ faults now

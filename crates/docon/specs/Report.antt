@@ -1,7 +1,6 @@
 -- The report: what the program writes and answers, from its words and the outcome of the file's
 -- reading. This project's own.
-use Rattle.std.specs.Prelude.{◌≡◌, ◌≤◌, ℕ, Bool, false, not, ◌&&◌, ◌||◌, ◌==◌, List, [], ◌∷◌, ◌++◌, length, take, codes, decimal, Option, Some, None, MatchOption, IfSome, if◌then◌else◌, ◌⊎◌}
-use Rattle.std.specs.Str.{bytes_eq, is_utf8}
+use Rattle.std.specs.Prelude.{◌≡◌, ◌≤◌, ℕ, List, [], ◌∷◌, ◌++◌, length, take, codes, decimal, Option, Some, None, MatchResult, IfSome, ◌⊎◌}
 use Rattle.dc_int.specs.declared.fault.Why.{Why}
 use Rattle.dc_code.specs.Codes.{CodeLists}
 use Rattle.dc_code.specs.Inner.{judging}
@@ -18,8 +17,9 @@ use Rattle.dc_outer.specs.Causes.{Rose}
 use Rattle.dc_run.specs.Playing as playing
 use Rattle.dc_run.specs.ReportLine.{Ending, done, bad, stopped, outside_names, report_line}
 use Rattle.dc_run.specs.Headline.{Reports}
-use Rattle.docon.specs.declared.command.Task.{Task}
+use Rattle.docon.specs.declared.request.Task.{Task}
 use Rattle.docon.specs.declared.report.Report.{Report}
+use Rattle.docon.specs.Words.{request_of, why_bad}
 
 abbrev pub feed : List ℕ
 feed = 10 ∷ []
@@ -27,32 +27,6 @@ feed = 10 ∷ []
 -- nothing but a line of the log
 abbrev pub only_log : List ℕ → ℕ → Report
 only_log words status = record { out = []; log = words ++ feed; status = status }
-
--- a word that an option may be: it begins with `-` and isn't `-` alone
-abbrev pub is_option : List ℕ → Bool
-is_option [] = false
-is_option (c ∷ []) = false
-is_option (c ∷ d ∷ rest) = c == 45
-
-abbrev pub is_command : List ℕ → Bool
-is_command word = bytes_eq word (codes "run") || bytes_eq word (codes "check") || bytes_eq word (codes "code")
-
--- the words are `run`, `check` or `code` and a word of UTF-8 that is no option
-unfoldable pub names_file : List ℕ → List ℕ → Bool
-names_file command file = is_command command && is_utf8 file && not (is_option file)
-
--- What words that name a file ask for.
-abbrev pub task_of : List (List ℕ) → Task
-task_of [] = Task.Run
-task_of (command ∷ rest) =
-    if bytes_eq command (codes "check") then Task.Check else (if bytes_eq command (codes "code") then Task.Code else Task.Run)
-
--- The file that the words name.
-abbrev pub file_of : List (List ℕ) → Option (List ℕ)
-file_of [] = None
-file_of (command ∷ []) = None
-file_of (command ∷ file ∷ []) = if names_file command file then Some file else None
-file_of (command ∷ file ∷ more ∷ rest) = None
 
 -- the first bytes of a file that are read: one more than a source may have
 unfoldable pub read_limit : ℕ
@@ -68,13 +42,10 @@ refusal_words line rule = codes "refused: line " ++ decimal line ++ codes ": K" 
 
 -- ---- the run of an accepted source
 
--- The turns of the main program, of each mask and of each iteration.
-abbrev pub default_turns : ℕ
-default_turns = 1000000
-
--- The run of a program, its loops judged. No program of today reads, so it is given no input.
-abbrev pub run_of : List Symbol → Source → playing.Outcome
-run_of symbols source = playing.run judging symbols source default_turns []
+-- The run of a program with so many turns for the main program, each mask and each iteration, its loops judged. No
+-- program of today reads, so it is given no input.
+abbrev pub run_of : ℕ → List Symbol → Source → playing.Outcome
+run_of turns symbols source = playing.run judging symbols source turns []
 
 -- 3 for a fault, 4 for a spent limit
 abbrev pub status_of_why : Why → ℕ
@@ -93,20 +64,20 @@ status_of done = 0
 status_of (bad failure) = status_of_why failure.why
 status_of (stopped verdict bounds) = status_of_trouble (trouble_in verdict)
 
--- The report of a program's run, which `Reports` is about: what the run wrote, the line that tells how it
--- ended, and its status.
-pub record IsRunReport (symbols : List Symbol) (source : Source) (report : Report) : Type 0 where
+-- The report of a program's run with so many turns, which `Reports` is about: what the run wrote, the line that tells
+-- how it ended, and its status.
+pub record IsRunReport (turns : ℕ) (symbols : List Symbol) (source : Source) (report : Report) : Type 0 where
   pub ending : Ending
-  pub ran : Reports symbols source default_turns [] report.out ending
+  pub ran : Reports symbols source turns [] report.out ending
   pub log_is : report.log ≡ report_line (outside_names symbols) ending
   pub status_is : report.status ≡ status_of ending
 
--- The source is accepted: some program is spelled by it, and the report is that of its run.
-pub record RunReport (text : List ℕ) (report : Report) : Type 0 where
+-- The source is accepted: some program is spelled by it, and the report is that of its run with so many turns.
+pub record RunReport (turns : ℕ) (text : List ℕ) (report : Report) : Type 0 where
   pub program : Program
   pub symbols : List Symbol
   pub spelled : Spells text program symbols
-  pub ran : IsRunReport symbols (source_of program) report
+  pub ran : IsRunReport turns symbols (source_of program) report
 
 -- What is written of an accepted source that isn't run.
 abbrev pub accepted_report : Report
@@ -141,7 +112,7 @@ pub record RefusalReport (text : List ℕ) (report : Report) : Type 0 where
   pub is : report ≡ only_log (refusal_words refusal.line refusal.rule) 1
 
 abbrev pub IsTaskReport : Task → List ℕ → Report → Type 0
-IsTaskReport Task.Run text report = RunReport text report
+IsTaskReport (Task.Run turns) text report = RunReport turns text report
 IsTaskReport Task.Check text report = CheckReport text report
 IsTaskReport Task.Code text report = CodeReport text report
 
@@ -153,11 +124,9 @@ abbrev pub IsReportOf : Task → Outcome → Report → Type 0
 IsReportOf task (contents text) report = IsSourceReport task text report
 IsReportOf task fault report = report ≡ only_log (codes "read: file") 6
 
--- The report of the words and of the outcome of the file's reading. Without a file that the words
--- name nothing is read.
+-- The report of the words and of the outcome of the file's reading. Where the words are refused nothing is read.
 abbrev pub IsReport : List (List ℕ) → Outcome → Report → Type 0
-IsReport words outcome report =
-    MatchOption (file_of words) (report ≡ only_log (codes "words: command") 5) (λ _. IsReportOf (task_of words) outcome report)
+IsReport words outcome report = MatchResult (request_of words) (λ request. IsReportOf request.task outcome report) (λ bad. report ≡ only_log (why_bad bad) 5)
 
 -- What a call has to read: its words, what the files tell under a name, and their count of faults before the
 -- call and after it.
@@ -183,7 +152,8 @@ HasOutcome held before now fault = Rose before now
 
 -- The reading that the words ask for.
 abbrev pub IsReading : Reading → Outcome → Type 0
-IsReading asked outcome = MatchOption (file_of asked.words) (asked.now ≡ asked.before) (λ file. HasOutcome (asked.told file) asked.before asked.now outcome)
+IsReading asked outcome =
+    MatchResult (request_of asked.words) (λ request. HasOutcome (asked.told request.file) asked.before asked.now outcome) (λ bad. asked.now ≡ asked.before)
 
 -- The report of a call: of its words and of the outcome of its reading.
 pub record Reported (asked : Reading) (report : Report) : Type 0 where

@@ -3,8 +3,9 @@
 use Rattle.std.specs.Prelude.{ℕ, List, [], take, Option, Some, unwrap_or, ◌⊎◌}
 use Rattle.dc_outer.specs.Memory.{SureSink, room_left, held_or_empty}
 use Rattle.docon.specs.declared.report.Report.{Report}
-use Rattle.docon.specs.Report.{contents, file_of, read_limit, IsReport}
+use Rattle.docon.specs.Report.{contents, read_limit, IsReport}
 use Rattle.docon.specs.Room.{Fits}
+use Rattle.docon.specs.Words.{file_of}
 use Rattle.docon.specs.Writing.{Change, change, WroteAll, GaveUp}
 
 -- the source that the words name, if they name one: the first bytes of the file

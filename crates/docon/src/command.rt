@@ -1,67 +1,63 @@
-//! What the words of a command line ask for, and the file that they name.
+//! The commands as clap knows them, and how it reads their words.
 
-ghost use Rattle.std.specs.Prelude.{◌≡◌, option_map, codes, ◌↔◌, IsTrue};
-ghost use Rattle.std.specs.Option.{option_copied};
-ghost use Rattle.std.specs.Str.{is_utf8};
-ghost use Rattle.docon.specs.Report.{file_of, is_option, is_command, names_file, task_of};
+ghost use Rattle.std.specs.Prelude.{◌≡◌, IfOk, map, option_map, true};
+ghost use Rattle.clap.specs.Words.{app_of, found_of, first_of, is_simple_and_free, kind_of, rows_of};
+ghost use Rattle.docon.specs.Words.{plain_app, run_app};
+ghost use Rattle.docon.specs.Matches.{GivesMatches, failed};
 
-use dc_text::DcText;
+use crate::request::{BadWords, WordsFail};
+use clap::error::ErrorKind;
+use clap::{Arg, ArgMatches, Command, Error};
+use dc_text::NoMemory;
+use std::alloc::Global;
 
-/// What is done with a source: its program is run, or it is only told that the source is accepted, or
-/// the program's code is listed.
-#[derive(Clone, Copy, Debug, PartialEq, Eq)]
-pub(crate) enum Task {
-    Run,
-    Check,
-    Code,
+/// `run [--turns=T] FILE`
+pub(crate) fn run_command<'a>(alloc: Global) -> Result<Command<'a>, NoMemory>
+    ensures { IfOk result (λ command. app_of command ≡ run_app) }
+{
+    let turns = Arg::new(alloc, "turns").long("turns");
+    let file = Arg::new(alloc, "file").required(true);
+    let command = Command::new(alloc, "run").arg(turns)?.arg(file)?;
+    Ok(command)
 }
 
-fn is_option(word: &[u8]) -> bool
-    ensures { result ≡ is_option word.now }
+/// `NAME FILE`
+pub(crate) fn plain_command<'a>(alloc: Global, name: &'a str) -> Result<Command<'a>, NoMemory>
+    ensures { IfOk result (λ command. app_of command ≡ plain_app name.entry.now) }
 {
-    matches!(word, [b'-', _, ..])
+    let file = Arg::new(alloc, "file").required(true);
+    let command = Command::new(alloc, name).arg(file)?;
+    Ok(command)
 }
 
-fn is_text(word: &[u8]) -> bool
-    ensures { result ≡ is_utf8 word.now }
+fn failed(error: Error) -> WordsFail
+    ensures { result ≡ failed (kind_of error) }
 {
-    str::from_utf8(word).is_ok()
-}
-
-fn is_command(word: &[u8]) -> bool
-    ensures { result ≡ is_command word.now }
-{
-    word == b"run".as_slice() || word == b"check".as_slice() || word == b"code".as_slice()
-}
-
-#[tactic(auto, unfolding(crate::specs::Report::names_file))]
-fn names_file(command: &[u8], file: &[u8]) -> bool
-    ensures { result ≡ names_file command.now file.now }
-{
-    is_command(command) && is_text(file) && !is_option(file)
-}
-
-/// The file that the words of a command line name. None where they are no command.
-pub(crate) fn file_of(words: &[DcText]) -> Option<&DcText>
-    ensures { option_copied result ≡ file_of words.now }
-{
-    let [command, file] = words else {
-        return None;
-    };
-    if names_file(command.as_bytes(), file.as_bytes()) {
-        Some(file)
+    if error.kind() == ErrorKind::OutOfMemory {
+        WordsFail::NoMemory
     } else {
-        None
+        WordsFail::Refused(BadWords::Command)
     }
 }
 
-/// What words that name a file ask for.
-pub(crate) fn task_of(words: &[DcText]) -> Task
-    ensures { result ≡ task_of words.now }
+/// What clap finds in the words of a command, of which the first is the command itself.
+pub(crate) fn matches_in<'a>(
+    command: Command<'a>,
+    words: &'a [&'a str],
+) -> Result<ArgMatches<'a>, WordsFail>
+    requires { is_simple_and_free (app_of command) ≡ true }
+    ensures { GivesMatches (app_of command.entry) (map (λ word. word.now) words.entry.now) result }
 {
-    match words {
-        [command, ..] if command.as_bytes() == b"check".as_slice() => Task::Check,
-        [command, ..] if command.as_bytes() == b"code".as_slice() => Task::Code,
-        _ => Task::Run,
+    match command.try_get_matches_from(words) {
+        Ok(matches) => Ok(matches),
+        Err(error) => Err(failed(error)),
     }
+}
+
+/// The value that was found for an argument.
+pub(crate) fn value<'a>(matches: &ArgMatches<'a>, name: &str) -> Option<&'a str>
+    ensures { option_map (λ text. text.now) result
+        ≡ first_of name.now (rows_of (found_of matches.now)) }
+{
+    matches.get_str(name)
 }

@@ -2,7 +2,9 @@
 #![tactic(auto)]
 
 mod command;
+mod number;
 mod report;
+mod request;
 pub mod statuses;
 mod sure;
 mod top;

@@ -1,6 +1,6 @@
 //! The report of a source.
 
-ghost use Rattle.std.specs.Prelude.{◌≡◌, IfOk};
+ghost use Rattle.std.specs.Prelude.{◌≡◌, ◌≤◌, IfOk};
 ghost use Rattle.dc_tree.specs.Blocks.{source_of};
 ghost use Rattle.docon.specs.Report.{
   only_log,
@@ -10,9 +10,11 @@ ghost use Rattle.docon.specs.Report.{
   IsCodeReport,
   IsSourceReport,
 };
+ghost use Rattle.docon.specs.Matches.{HasTurns};
+ghost use Rattle.docon.specs.Words.{why_bad};
 
-use crate::command::Task;
-use crate::statuses::{DONE, REFUSED, status_of};
+use crate::request::{BadWords, Task};
+use crate::statuses::{DONE, REFUSED, WORDS, status_of};
 use dc_front::{Accepted, accept};
 use dc_listing::listing;
 use dc_lower::lower;
@@ -21,9 +23,6 @@ use dc_run::{report_line, run};
 use dc_text::{DcText, NoMemory};
 use dc_tree::{Fail, Refusal};
 use std::alloc::Global;
-
-/// The turns of the main program, of each mask and of each iteration.
-const TURNS: u64 = 1_000_000;
 
 const WORKERS: u32 = 4;
 
@@ -59,15 +58,29 @@ fn refusal(alloc: Global, refusal: Refusal) -> Result<Report, NoMemory>
     only_log(alloc, words.as_bytes(), REFUSED)
 }
 
+/// The report of words that are refused.
+pub(crate) fn words_refusal(alloc: Global, bad: BadWords) -> Result<Report, NoMemory>
+    ensures { IfOk result (λ report. report ≡ only_log (why_bad bad) WORDS) }
+{
+    match bad {
+        BadWords::Command => only_log(alloc, b"words: command", WORDS),
+        BadWords::Turns => only_log(alloc, b"words: turns", WORDS),
+    }
+}
+
 /// The report of an accepted source's run.
 fn run_report<G: Gate + Sync>(
     alloc: Global,
     accepted: &Accepted,
+    turns: u64,
     gate: &G,
 ) -> Result<Report, NoMemory>
-    ensures { IfOk result (IsRunReport (accepted.now).symbols (source_of (accepted.now).program)) }
+    requires some_turns { 1 ≤ turns }
+    requires few_turns { turns ≤ 1000000000 }
+    ensures { IfOk result
+        (IsRunReport turns (accepted.now).symbols (source_of (accepted.now).program)) }
 {
-    let ran = run(alloc, accepted, &[], TURNS, WORKERS, gate)?;
+    let ran = run(alloc, accepted, &[], turns, WORKERS, gate)?;
     let log = report_line(alloc, accepted, &ran.ending)?;
     let status = status_of(&ran.ending);
     Ok(Report {
@@ -110,11 +123,12 @@ pub(crate) fn source_report<G: Gate + Sync>(
     text: &[u8],
     gate: &G,
 ) -> Result<Report, NoMemory>
+    requires { HasTurns task }
     ensures { IfOk result (IsSourceReport task text.now) }
 {
     match accept(alloc, text) {
         Ok(accepted) => match task {
-            Task::Run => run_report(alloc, &accepted, gate),
+            Task::Run { turns } => run_report(alloc, &accepted, turns, gate),
             Task::Check => accepted_report(alloc),
             Task::Code => code_report(alloc, &accepted),
         },

@@ -25,7 +25,7 @@ pub const FAULT: u8 = 3;
 /// A limit of turns is spent.
 pub const SPENT: u8 = 4;
 
-/// The words are no command.
+/// The words are no command, or their turns are no number in range.
 pub const WORDS: u8 = 5;
 
 /// The device of the source's file failed.

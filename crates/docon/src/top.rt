@@ -5,9 +5,9 @@ ghost use Rattle.docon.specs.Answers.{Answers, KeepsFiles};
 ghost use Rattle.docon.specs.Report.{reading, Reported};
 ghost use Rattle.docon.specs.Writing.{change};
 
-use crate::command::{file_of, task_of};
-use crate::report::{Report, only_log, source_report};
-use crate::statuses::{NO_MEMORY, READ_FAULT, WORDS};
+use crate::report::{Report, only_log, source_report, words_refusal};
+use crate::request::{WordsFail, request_of};
+use crate::statuses::{NO_MEMORY, READ_FAULT};
 use crate::writing::write_report;
 use dc_outer::{FileFault, Files, Gate, Sink, Source};
 use dc_text::{DcText, NoMemory};
@@ -25,19 +25,22 @@ fn report<F: Files, G: Gate + Sync>(
     ensures report { IfOk result (Reported (reading words.now F.told F.faults files.old files.new)) }
     ensures files_kept { KeepsFiles words.now F.told F.faults files.old files.new }
 {
-    let Some(file) = file_of(words) else {
-        return only_log(alloc, b"words: command", WORDS);
+    let request = match request_of(alloc, words) {
+        Ok(request) => request,
+        Err(WordsFail::Refused(bad)) => return words_refusal(alloc, bad),
+        Err(WordsFail::NoMemory) => return Err(NoMemory),
     };
-    match files.read(alloc, file, MOST_SOURCE) {
-        Ok(text) => source_report(alloc, task_of(words), text.as_slice(), gate),
+    match files.read(alloc, &request.file, MOST_SOURCE) {
+        Ok(text) => source_report(alloc, request.task, text.as_slice(), gate),
         Err(FileFault::Failed) => only_log(alloc, b"read: file", READ_FAULT),
         Err(FileFault::NoMemory) => Err(NoMemory),
     }
 }
 
 /// Runs the command that the words of a command line name, without the program's own name, and
-/// answers the status of the process. The command `run` runs the program of a file. `check` only tells
-/// whether the file's source is accepted, by the same rules, and `code` lists the code of its program.
+/// answers the status of the process. `run [--turns=T] FILE` runs the program of a file. `check FILE`
+/// only tells whether the file's source is accepted, by the same rules, and `code FILE` lists the code
+/// of its program. What words ask for is `request_of`, in `specs/Words.antt`.
 ///
 /// **For every accepted source that is run, whatever the input and whatever the gate does, what is
 /// written is the report of its run. Each loop that the run reaches ends with the one store that
@@ -53,7 +56,8 @@ fn report<F: Files, G: Gate + Sync>(
 /// each status comes, and `complete` that all was written where nothing failed. The clause `unchanged`
 /// says what stays as it was. Statuses and the lines of the log are listed in `docs/REPORTS.md`.
 ///
-/// The turns are 1,000,000. No statement of today spends one, reads, or is run by workers.
+/// Without `--turns` a run has 1,000,000 turns. No statement of today spends one, reads, or is run by
+/// workers.
 pub fn docon<F: Files, S: Source, W: Sink, L: Sink, G: Gate + Sync>(
     alloc: Global,
     words: &[DcText],

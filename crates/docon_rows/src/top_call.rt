@@ -190,26 +190,62 @@ fn operands(rt: HostRuntime) -> Result<(), Fail> {
     Ok(())
 }
 
+/// Words that are refused, and files that aren't held: the line of the log and the status.
+const REFUSED_WORDS: [(&[&str], &str, u8); 23] = [
+    (&["run"], "words: command\n", 5),
+    (&[], "words: command\n", 5),
+    (&["ruin", "s.f90"], "words: command\n", 5),
+    (&["run", "s.f90", "s.f90"], "words: command\n", 5),
+    (&["run", "--fast"], "words: command\n", 5),
+    (&["run", "--nothing=1", "s.f90"], "words: command\n", 5),
+    (
+        &["run", "--turns=1", "--turns=2", "s.f90"],
+        "words: command\n",
+        5,
+    ),
+    (&["run", "--help"], "words: command\n", 5),
+    (&["--help"], "words: command\n", 5),
+    (&["run", "--turns=0"], "words: command\n", 5),
+    (&["check"], "words: command\n", 5),
+    (&["check", "--turns=10", "s.f90"], "words: command\n", 5),
+    (&["code"], "words: command\n", 5),
+    (&["run", "--turns=0", "s.f90"], "words: turns\n", 5),
+    (&["run", "--turns=1000000001", "s.f90"], "words: turns\n", 5),
+    (&["run", "--turns=x", "s.f90"], "words: turns\n", 5),
+    (&["run", "--turns=", "s.f90"], "words: turns\n", 5),
+    (&["run", "--turns=0", "t.f90"], "words: turns\n", 5),
+    (&["run", "t.f90"], "read: file\n", 6),
+    (&["run", "--", "-t"], "read: file\n", 6),
+    (&["check", "t.f90"], "read: file\n", 6),
+    (&["code", "t.f90"], "read: file\n", 6),
+    (&["run", ""], "read: file\n", 6),
+];
+
 #[test]
 fn words_and_files(rt: HostRuntime) -> Result<(), Fail> {
-    let table: [(&[&str], &str, u8); 11] = [
-        (&["run"], "words: command\n", 5),
-        (&[], "words: command\n", 5),
-        (&["ruin", "s.f90"], "words: command\n", 5),
-        (&["run", "s.f90", "s.f90"], "words: command\n", 5),
-        (&["run", "--fast"], "words: command\n", 5),
-        (&["check"], "words: command\n", 5),
-        (&["code"], "words: command\n", 5),
-        (&["run", "t.f90"], "read: file\n", 6),
-        (&["check", "t.f90"], "read: file\n", 6),
-        (&["code", "t.f90"], "read: file\n", 6),
-        (&["run", ""], "read: file\n", 6),
-    ];
     let source = form(rt.alloc(), "4", "i*i")?;
-    for (command, log, status) in table {
+    for (command, log, status) in REFUSED_WORDS {
         let answer = call(rt.alloc(), source.as_bytes(), command, &WELL)?;
         assert_eq!(rt; answer.log.as_bytes(), log.as_bytes());
         assert_eq!(rt; (answer.out.len(), answer.status), (0, status));
+    }
+    Ok(())
+}
+
+/// Turns may stand in front of the file or behind it, in one word or in two.
+#[test]
+fn turns_in_words(rt: HostRuntime) -> Result<(), Fail> {
+    let table: [&[&str]; 4] = [
+        &["run", "--turns=10", "s.f90"],
+        &["run", "--turns", "10", "s.f90"],
+        &["run", "s.f90", "--turns=1"],
+        &["run", "--turns=1000000000", "s.f90"],
+    ];
+    let source = form(rt.alloc(), "4", "i*i")?;
+    for command in table {
+        let answer = call(rt.alloc(), source.as_bytes(), command, &WELL)?;
+        assert_eq!(rt; answer.out.as_bytes(), b"1 4 9 16\n".as_slice());
+        assert_eq!(rt; (answer.log.len(), answer.status), (0, 0));
     }
     Ok(())
 }

@@ -1,6 +1,6 @@
 -- What is added so far and what the rest adds is all together.
 use Rattle.std.proofs.Common.{◌≡◌, ◌++◌, drop}
-use Rattle.dc_lower.specs.Blocks.{lined}
+use Rattle.dc_actions.specs.Deeds.{lined}
 use Rattle.dc_lower.proofs.blocks.add_lined.Given as goal
 
 abbrev pub invariant-loop-what : goal.invariant-loop-what

@@ -2,7 +2,7 @@ use Rattle.std.proofs.Common.{◌+◌, [], ◌∷◌, drop}
 use Rattle.dc_int.specs.declared.variable.Locality.{Locality}
 use Rattle.dc_lower.specs.Wholes.{plain_localities}
 use Rattle.dc_lower.proofs.LoweredLoops.{plain-next}
-use Rattle.dc_lower.proofs.Making.{grown}
+use Rattle.dc_actions.proofs.Making.{grown}
 use Rattle.dc_lower.proofs.program.localities.Goals as goal
 
 pub loop-shape-preserved : goal.loop-shape-preserved

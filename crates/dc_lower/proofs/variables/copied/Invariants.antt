@@ -1,6 +1,6 @@
 -- What is copied so far and the rest is all together.
 use Rattle.std.proofs.Common.{◌≡◌, ◌++◌, drop, IsTrue}
-use Rattle.dc_lower.specs.Lowerable.{are_held_bounds}
+use Rattle.dc_actions.specs.Typed.{are_held_bounds}
 use Rattle.dc_lower.proofs.variables.copied.Given as goal
 
 abbrev pub invariant-loop-dimension : goal.invariant-loop-dimension

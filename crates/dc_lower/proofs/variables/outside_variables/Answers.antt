@@ -6,7 +6,7 @@ use Rattle.dc_meaning.proofs.Gathering.{next-is}
 use Rattle.dc_lower.specs.Lowerable.{are_held_symbols}
 use Rattle.dc_lower.specs.Variables.{shapes_of, bounds_of_all}
 use Rattle.dc_lower.proofs.Declaring.{shapes-first, bounds-first, built-first, few-behind}
-use Rattle.dc_lower.proofs.Making.{grown}
+use Rattle.dc_actions.proofs.Making.{grown}
 use Rattle.dc_lower.proofs.variables.outside_variables.Goals as goal
 
 pub loop-symbol-preserved : goal.loop-symbol-preserved

@@ -1,6 +1,5 @@
-use Rattle.std.proofs.Common.{rules, ◌≡◌, ◌++◌, ◌∷◌, ◌+◌, ◌<◌, ◌≤◌, ◌%◌, ◌/◌, [], ℕ, List, subst, drop, slice_index_or, pos, ℤ}
+use Rattle.std.proofs.Common.{rules, ◌≡◌, ◌++◌, ◌∷◌, ◌+◌, ◌<◌, ◌≤◌, ◌%◌, ◌/◌, [], ℕ, List, subst, drop, slice_index_or, pos, ℤ, length, sym, ◌∙◌, ap}
 use Rattle.std.proofs.lemmas.List.{drop_more, at_drop_more, append_assoc}
-use Rattle.std.proofs.Common.{length, sym, ◌∙◌, ap}
 use Rattle.std.specs.Prelude.{◌+ℤ◌}
 use Rattle.dc_int.specs.Store.{Bounds, extent}
 use Rattle.dc_run.specs.ReportLine.{subscripts_at}

@@ -3,7 +3,7 @@ use Rattle.std.proofs.Common.{◌≡◌, ◌++◌, drop, length, map, IsTrue}
 use Rattle.dc_tree.specs.Blocks.{item, items_from}
 use Rattle.dc_lower.specs.Blocks.{block_code, texts_of_block, groups_of_block}
 use Rattle.dc_lower.specs.Held.{block_has_code}
-use Rattle.dc_lower.specs.Naming.{scope_of}
+use Rattle.dc_actions.specs.Naming.{scope_of}
 use Rattle.dc_lower.proofs.blocks.Lowering.block.Given as goal
 
 abbrev pub invariant-loop-node : goal.invariant-loop-node

@@ -7,7 +7,7 @@ use Rattle.dc_tree.specs.Statements.{Ranging, statement, index_ranging}
 use Rattle.dc_meaning.specs.WalkScope.{kind_of_index, index_scope}
 use Rattle.dc_meaning.proofs.Looping.{BuiltLoop, built-loop}
 use Rattle.dc_lower.specs.Blocks.{part_code, groups_of_block}
-use Rattle.dc_lower.specs.Naming.{scope_of}
+use Rattle.dc_actions.specs.Naming.{scope_of}
 use Rattle.dc_lower.proofs.LoweredLoops.{index-is, index-held, inner-scope, its-kind, its-scope, header-is, block-scope-is, body-is, plan-is, construct-is, loop-added}
 use Rattle.dc_lower.proofs.program.Lists.add_loop.Goals as goal
 

@@ -1,0 +1,11 @@
+pub mod Assigning
+pub mod Carrying
+pub mod Deeds
+pub mod Expressions
+pub mod Limits
+pub mod Naming
+pub mod Placed
+pub mod Printing
+pub mod References
+pub mod Subscripts
+pub mod Typed
