@@ -116,12 +116,14 @@ fn perform_counted<'a>(
     counted: &Counted,
 ) -> Result<Flow<'a>, Stop>
     requires walk { IsWalk walk.now }
-    requires ranging { IsTrue (is_walked_ranging (scope_of walk.now) (counted_ranging counted.now)) }
+    requires ranging { IsTrue (is_walked_ranging (scope_of walk.now)
+        (counted_ranging counted.now)) }
     requires walked { IsTrue (is_walked_block (scope_of walk.now)
         (index_names (walk.now).standing) (items body.now)) }
     ensures { (number : ℕ) → Spends (own_of walk.now) turns.old ledger.old
         (λ call. counted_do (scope_of walk.now) call line label.now (counted_ranging counted.now)
-        (entity (scope_of walk.now) (counted.now).name) (exec_all (scope_of walk.now) call number (items body.now)))
+        (entity (scope_of walk.now) (counted.now).name)
+        (exec_all (scope_of walk.now) call number (items body.now)))
         turns.new ledger.new result }
 {
     let scalar = scalar_named(walk, counted.name.as_bytes());
@@ -205,7 +207,8 @@ fn perform_cases<'a>(
     requires walked { IsTrue (are_walked_arms (scope_of walk.now)
         (index_names (walk.now).standing) (arms_from (map part_items arms.now))) }
     ensures { (number : ℕ) → Spends (own_of walk.now) turns.old ledger.old
-        (λ call. exec_cases (scope_of walk.now) call number given (arms_from (map part_items arms.now)) (just on))
+        (λ call. exec_cases (scope_of walk.now) call number given
+        (arms_from (map part_items arms.now)) (just on))
         turns.new ledger.new result }
 {
     match chosen(alloc, &walk.standing, given, arms)? {
@@ -245,7 +248,7 @@ fn perform_node<'a>(
     }
 }
 
-/// Carries out the statements and constructs of a block, in their order, and tells where it goes on.
+/// Carries out the statements and constructs of a block in their order, and tells where it goes on.
 #[cycle(blocks)]
 #[tactic(auto, using(dc_tree::proofs::Views::statement_views))]
 pub(crate) fn perform_all<'a>(

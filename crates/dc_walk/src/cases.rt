@@ -77,7 +77,8 @@ fn is_in_range(
     range: &Range,
 ) -> Result<bool, NoMemory>
     ensures { IfOk result (λ is. is
-        ≡ execution.is_in_range (scope_at (standing_of standing.now)) given (case_range range.now)) }
+        ≡ execution.is_in_range (scope_at (standing_of standing.now)) given
+        (case_range range.now)) }
 {
     match range {
         Range::One(only) => {
@@ -113,8 +114,8 @@ fn is_in_some(
     Ok(false)
 }
 
-/// The place of the arm of SELECT CASE that is taken, and `None` where none is. A default is taken where
-/// no other arm fits, wherever it stands.
+/// The place of the arm of SELECT CASE that is taken, and `None` where none is. A default is taken
+/// where no other arm fits, wherever it stands.
 pub(crate) fn chosen(
     alloc: Global,
     standing: &Standing,

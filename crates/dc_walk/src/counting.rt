@@ -44,7 +44,7 @@ impl Scalar {
     }
 }
 
-/// The values of the variable of a counted DO: from the first on by the step, and none past the last.
+/// The values of the variable of a counted DO: from the first on by the step, none past the last.
 #[derive(Clone, Copy)]
 pub(crate) struct Steps {
     pub first: i64,
@@ -125,7 +125,8 @@ pub(crate) fn steps_of(
     requires walk { IsWalk walk.now }
     requires walked { IsTrue (is_walked_ranging (scope_of walk.now) (counted_ranging counted.now)) }
     ensures is { Stays span_with (own_of walk.now) ledger.old
-        (λ call. execution.span_of (scope_of walk.now) call line (whole kind) (counted_ranging counted.now))
+        (λ call. execution.span_of (scope_of walk.now) call line (whole kind)
+        (counted_ranging counted.now))
         ledger.new result }
     ensures moves { IfOk result IsMoving }
 {
@@ -190,7 +191,8 @@ fn sum(kind: Kind, a: i64, b: i64) -> i64
 /// Gives the variable its next value.
 pub(crate) fn step(ledger: &mut Ledger, line: u32, scalar: Scalar, by: i64) -> Result<(), Stop>
     ensures { (own : Slots) → Stays (λ done. done) own ledger.old
-        (λ call. execution.stepped line (Place.Outer (scalar_element scalar)) (whole scalar.kind) by)
+        (λ call. execution.stepped line (Place.Outer (scalar_element scalar))
+        (whole scalar.kind) by)
         ledger.new result }
 {
     let element = scalar.element();

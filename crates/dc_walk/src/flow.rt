@@ -16,7 +16,7 @@ pub(crate) enum Flow<'a> {
     Exit(&'a Option<DcText>),
 }
 
-/// Whether a CYCLE or EXIT belongs to the loop with this label, from which none inside it has taken it.
+/// Whether a CYCLE or EXIT that belongs to no loop inside belongs to the loop with this label.
 fn belongs(label: &Option<DcText>, given: &Option<DcText>) -> bool
     ensures { result ≡ execution.belongs label.now given.now }
 {

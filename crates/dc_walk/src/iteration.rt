@@ -36,9 +36,11 @@ fn perform_one<'a>(
 ) -> Result<(), Stop>
     requires symbols { IsTrue (are_built_symbols symbols.now) }
     requires numbers { numbering.now ≡ numbers_of symbols.now }
-    requires built { IsTrue (is_built_loop (main_scope symbols.now) (statement head.now) (items body.now)) }
+    requires built { IsTrue (is_built_loop (main_scope symbols.now) (statement head.now)
+        (items body.now)) }
     ensures { (number : ℕ) → Finishes ((Some value ∷ []) ∷ []) turns ledger.old
-        (λ call. exec_all (index_scope symbols.now (index_name (statement head.now))) call number (items body.now))
+        (λ call. exec_all (index_scope symbols.now (index_name (statement head.now))) call number
+        (items body.now))
         ledger.new result }
 {
     let index = first_index(head);
@@ -64,7 +66,8 @@ fn perform_loop(
 ) -> Result<(), Stop>
     requires { IsTrue (is_built symbols.now (source_of program.now)) }
     ensures { Ends ledger.old
-        (block_alone symbols.now (source_of program.now) construct (value ∷ []) turns) ledger.new result }
+        (block_alone symbols.now (source_of program.now) construct (value ∷ []) turns)
+        ledger.new result }
 {
     let numbering = Numbering::new(alloc, symbols)?;
     match nth_loop(program.body.nodes.as_slice(), construct) {
@@ -122,7 +125,8 @@ pub fn alone(
     turns: u64,
 ) -> Result<AloneOut, NoMemory>
     requires { IsAsked program.now symbols.now combination.now }
-    ensures { IfOk result (λ out. Tells (iteration_alone program.now symbols.now construct combination.now opening.now turns) out) }
+    ensures { IfOk result (Tells (iteration_alone program.now symbols.now construct
+        combination.now opening.now turns)) }
 {
     let value = only(combination);
     let mut ledger = Ledger::new(alloc, symbols, opening)?;

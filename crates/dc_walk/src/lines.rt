@@ -77,7 +77,8 @@ pub(crate) fn perform_line<'a>(
     lined: &'a Lined,
 ) -> Result<Flow<'a>, Stop>
     requires walk { IsWalk walk.now }
-    requires walked { IsTrue (is_walked_line (index_names (walk.now).standing) (statement (lined.now).stmt)) }
+    requires walked { IsTrue (is_walked_line (index_names (walk.now).standing)
+        (statement (lined.now).stmt)) }
     ensures { Stays flow_of (own_of walk.now) ledger.old
         (λ call. plain_line (scope_of walk.now) call (line_of lined.now)) ledger.new result }
 {

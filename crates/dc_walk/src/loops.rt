@@ -46,7 +46,8 @@ pub(crate) fn perform_iteration(
     requires walked { IsTrue (is_walked_block (scope_at (standing_of task.standing))
         (index_names task.standing) (items task.body.now)) }
     ensures { (number : ℕ) → Finishes ((Some value ∷ []) ∷ []) task.entry.turns ledger.old
-        (λ call. exec_all (scope_at (standing_of task.entry.standing)) call number (items task.entry.body.now))
+        (λ call. exec_all (scope_at (standing_of task.entry.standing)) call number
+        (items task.entry.body.now))
         ledger.new result }
 {
     let walk = Walk {

@@ -24,8 +24,8 @@ pub(crate) fn spend(turns: &mut u64, line: u32) -> Result<(), Stop>
     Ok(())
 }
 
-/// How often a test can be made before each round: the turns allow so many rounds, and behind the last of them
-/// it may be made once more.
+/// How often the test of a loop can be made: there are no more rounds than turns, and behind the last
+/// round it may be made once more.
 pub(crate) fn most_tests(turns: u64) -> u128
     ensures { result ≡ turns + 1 }
 {

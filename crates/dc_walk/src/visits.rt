@@ -46,8 +46,8 @@ fn visit_between(
 }
 
 /// Judges a loop whose header comes to these limits, and leaves the elements as it does: with the
-/// closing values where it goes on, and else unchanged. `head` is its header, `body` its block, and each
-/// iteration has so many turns.
+/// closing values where it goes on, and else unchanged. `head` is its header, `body` its block, and
+/// each iteration has so many turns.
 pub fn visit<'a>(
     alloc: Global,
     symbols: &'a Symbols,
