@@ -129,9 +129,7 @@ fn perform_counted<'a>(
     let scalar = scalar_named(walk, counted.name.as_bytes());
     let steps = steps_of(alloc, walk, ledger, line, scalar.kind, counted)?;
     begin(ledger, line, scalar, steps.first)?;
-    perform_rounds(
-        alloc, walk, ledger, turns, body, line, label, scalar, steps,
-    )
+    perform_rounds(alloc, walk, ledger, turns, body, line, label, scalar, steps)
 }
 
 /// Carries out a loop, which begins with this line.
@@ -161,7 +159,16 @@ fn perform_loop<'a>(
             None => perform_while(alloc, walk, ledger, turns, body, head.line, label, None),
         },
         Stmt::DoWhile { label, test } => {
-            perform_while(alloc, walk, ledger, turns, body, head.line, label, Some(test))
+            perform_while(
+                alloc,
+                walk,
+                ledger,
+                turns,
+                body,
+                head.line,
+                label,
+                Some(test),
+            )
         }
         _ => unreachable!(),
     }

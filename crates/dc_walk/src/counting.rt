@@ -168,12 +168,7 @@ pub(crate) fn count(steps: Steps) -> u128
 }
 
 /// Gives the variable its first value.
-pub(crate) fn begin(
-    ledger: &mut Ledger,
-    line: u32,
-    scalar: Scalar,
-    first: i64,
-) -> Result<(), Stop>
+pub(crate) fn begin(ledger: &mut Ledger, line: u32, scalar: Scalar, first: i64) -> Result<(), Stop>
     ensures { (own : Slots) → Stays (λ done. done) own ledger.old
         (λ call. acts.store line (Place.Outer (scalar_element scalar)) first) ledger.new result }
 {

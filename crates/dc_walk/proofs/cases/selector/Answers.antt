@@ -26,6 +26,6 @@ returns c =
     let expr = c.in-Select.expr in
     let given = c.in_ok-given-in-Select.given in
     let told = to_z-of_z w64 c.fitted.result (search rules) ∙ c.fitted.ensures ∙ ap (fitted (sort_of_form c.in_ok-known-in-Select.known.form)) (to_z-of_z w64 given (search rules))
-        ∙ ap (λ sort. fitted sort given) (known-sort scope (tree expr) c.in_ok-known-in-Select.known c.in_ok-known-in-Select.ensures) in
+    ∙ ap (λ sort. fitted sort given) (known-sort scope (tree expr) c.in_ok-known-in-Select.known c.in_ok-known-in-Select.ensures) in
     stays-as (λ call. selector-is scope call c.args.head.now expr c.in-Select.is)
     (stays-then (λ call z. just (fitted (sort_of scope (tree expr)) z)) c.in_ok-given-in-Select.ensures (stays-just _ (λ call. ap just (sym told))))
