@@ -1,27 +1,24 @@
 -- The arms of constructs.
-use Rattle.std.proofs.Common.{◌≡◌, ℕ, zero, suc, ◌+◌, ◌<◌, ◌≤◌, Bool, true, false, ◌&&◌, List, [], ◌∷◌, map, length, drop, get_or, Option, Some, None, refl, sym, ap, subst, ◌∙◌, arith, slice_get}
-use Rattle.std.specs.Prelude.{Result, Ok, Err, ℤ, if◌then◌else◌}
-use Rattle.std.specs.List.{list_any}
+use Rattle.std.proofs.Common.{◌≡◌, ℕ, ◌+◌, ◌<◌, ◌≤◌, Bool, true, false, ◌&&◌, List, map, length, drop, get_or, refl, sym, ap, ◌∙◌, arith}
+use Rattle.std.specs.Prelude.{Result, Ok, Err, if◌then◌else◌}
 use Rattle.std.proofs.lemmas.Bool.{and_parts}
 use Rattle.std.proofs.lemmas.List.{drop_all}
 use Rattle.dc_code.specs.Troubles.{Slots}
 use Rattle.dc_plain.specs.Views.{View}
 use Rattle.dc_tree.specs.declared.program.Part.{Part, out-Part, fold_out-Part}
-use Rattle.dc_tree.specs.declared.program.Lined.{Lined}
-use Rattle.dc_tree.specs.declared.program.Block.{Block}
-use Rattle.dc_tree.specs.Blocks.{Line, Item, Items, Arms, none, no_arms, arm, line_of, items, arms_from, part_items, item_step, items_step, part_step}
+use Rattle.dc_tree.specs.Blocks.{Line, Item, Items, Arms, arm, line_of, items, arms_from, part_items, item_step, items_step, part_step}
 use Rattle.dc_tree.specs.Entities.{Scope}
 use Rattle.dc_tree.specs.Statements as statements
 use Rattle.dc_tree.specs.Statements.{Name, Statement}
 use Rattle.dc_meaning.specs.declared.stop.Stop.{Stop}
-use Rattle.dc_meaning.specs.Acts.{Act, ◌>>=◌, just}
-use Rattle.dc_meaning.specs.Actions.{Flow, on}
-use Rattle.dc_meaning.specs.Execution.{loops_in_all, if_arm, case_arm, is_in_range, exec_all, exec_arms, exec_cases}
+use Rattle.dc_meaning.specs.Acts.{Act, ◌>>=◌}
+use Rattle.dc_meaning.specs.Actions.{Flow}
+use Rattle.dc_meaning.specs.Execution.{loops_in_all, if_arm, exec_all, exec_arms}
 use Rattle.dc_meaning.specs.Values.{Callee}
 use Rattle.dc_meaning.specs.Walking.{Stays}
 use Rattle.dc_meaning.proofs.Gathering.{next-is}
 use Rattle.dc_walk.specs.declared.flow.Flow as code
-use Rattle.dc_walk.specs.Arms.{tested, test_of, chosen_by, chosen_from}
+use Rattle.dc_walk.specs.Arms.{tested, test_of}
 use Rattle.dc_walk.specs.Flows.{Spends}
 use Rattle.dc_walk.specs.Walked.{is_held_or_absent, is_walked_block, are_walked_arms}
 use Rattle.dc_walk.proofs.Spending.{spends-as, spends-behind, spends-bad, spends-just}

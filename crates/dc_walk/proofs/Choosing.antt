@@ -1,10 +1,10 @@
 -- The arm of SELECT CASE that is taken.
 use Rattle.std.proofs.Common.{◌≡◌, ℕ, zero, suc, ◌+◌, ◌<◌, Bool, true, false, ◌&&◌, List, [], ◌∷◌, map, length, drop, get_or, Option, Some, None, refl, sym, ap, ◌∙◌, arith, slice_get}
-use Rattle.std.specs.Prelude.{Result, Ok, ℤ, if◌then◌else◌}
+use Rattle.std.specs.Prelude.{ℤ, if◌then◌else◌}
 use Rattle.std.specs.List.{list_any}
 use Rattle.std.proofs.lemmas.Bool.{and_parts}
-use Rattle.dc_tree.specs.declared.program.Part.{Part, out-Part}
-use Rattle.dc_tree.specs.Blocks.{Line, Items, Arms, none, arm, items, arms_from, part_items}
+use Rattle.dc_tree.specs.declared.program.Part.{Part}
+use Rattle.dc_tree.specs.Blocks.{Items, Arms, arms_from, part_items}
 use Rattle.dc_tree.specs.Entities.{Scope}
 use Rattle.dc_tree.specs.Statements as statements
 use Rattle.dc_tree.specs.Statements.{Name, Statement}

@@ -1,7 +1,7 @@
 -- The limits and the step of a counted DO, and its variable from one value to the next.
-use Rattle.std.proofs.Common.{◌≡◌, ℕ, Bool, true, ◌&&◌, refl, sym, ap, subst, ◌∙◌}
+use Rattle.std.proofs.Common.{◌≡◌, ℕ, true, ◌&&◌, refl, sym, ap, subst}
 use Rattle.std.proofs.lemmas.Bool.{and_parts}
-use Rattle.std.specs.Prelude.{Result, Ok, Err, ℤ, ◌+ℤ◌, IsTrue}
+use Rattle.std.specs.Prelude.{Ok, Err, ℤ, ◌+ℤ◌}
 use Rattle.dc_int.specs.declared.access.ElementId.{ElementId}
 use Rattle.dc_int.specs.declared.kind.Kind.{Kind}
 use Rattle.dc_int.specs.Entries.{Defines}
@@ -15,7 +15,7 @@ use Rattle.dc_tree.specs.Entities.{Scope, entity}
 use Rattle.dc_tree.specs.Statements.{Ranging}
 use Rattle.dc_form.specs.BuiltPrograms.{is_held, is_whole_scalar}
 use Rattle.dc_meaning.specs.declared.stop.Stop.{Stop}
-use Rattle.dc_meaning.specs.Acts.{Act, ◌>>=◌, just, refer_to, store}
+use Rattle.dc_meaning.specs.Acts.{Act, ◌>>=◌, refer_to, store}
 use Rattle.dc_meaning.specs.Execution.{step_value, checked_span, span_of, stepped}
 use Rattle.dc_meaning.specs.Values.{Callee, value}
 use Rattle.dc_meaning.specs.Walking.{Stays}

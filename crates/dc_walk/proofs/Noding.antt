@@ -1,6 +1,5 @@
 -- Nodes and loops as the code has them.
-use Rattle.std.proofs.Common.{◌≡◌, ℕ, zero, suc, ◌<◌, Bool, true, ◌&&◌, List, [], ◌∷◌, map, length, get_or, Option, Some, None, refl, sym, ap, ◌∙◌, arith}
-use Rattle.std.specs.Prelude.{option_map, pos}
+use Rattle.std.proofs.Common.{◌≡◌, ℕ, zero, suc, ◌<◌, true, ◌&&◌, List, [], ◌∷◌, map, length, get_or, Option, Some, None, sym, ap, ◌∙◌, arith}
 use Rattle.std.proofs.lemmas.Bool.{and_parts}
 use Rattle.dc_tree.specs.declared.expr.Expr.{Expr}
 use Rattle.dc_tree.specs.declared.program.Block.{Block}
@@ -9,7 +8,7 @@ use Rattle.dc_tree.specs.declared.program.Node.{Node, Plain, If, Select, Loop}
 use Rattle.dc_tree.specs.declared.program.Part.{Part}
 use Rattle.dc_tree.specs.declared.stmt.Counted.{Counted}
 use Rattle.dc_tree.specs.declared.stmt.Stmt.{Stmt}
-use Rattle.dc_tree.specs.Blocks.{Item, line_of, item, items, arms_from, part_items}
+use Rattle.dc_tree.specs.Blocks.{line_of, item, items, arms_from, part_items}
 use Rattle.dc_tree.specs.Entities.{Scope, entity}
 use Rattle.dc_tree.specs.Statements.{Name, counted_ranging, statement}
 use Rattle.dc_tree.specs.Syntax.{tree}

@@ -1,7 +1,6 @@
 -- The rounds of loops.
-use Rattle.std.proofs.Common.{◌≡◌, ℕ, zero, suc, ◌+◌, ◌-◌, ◌<◌, ◌≤◌, Bool, true, false, [], Option, Some, None, refl, sym, ap, subst, ◌∙◌, arith}
-use Rattle.std.specs.Prelude.{Result, Ok, Err, ℤ, if◌then◌else◌}
-use Rattle.dc_int.specs.declared.access.ElementId.{ElementId}
+use Rattle.std.proofs.Common.{◌≡◌, ℕ, suc, ◌+◌, ◌-◌, ◌<◌, ◌≤◌, Bool, true, false, Option, Some, None, refl, sym, ap, ◌∙◌, arith}
+use Rattle.std.specs.Prelude.{Result, Ok, Err, if◌then◌else◌}
 use Rattle.dc_int.specs.Sorts.{whole}
 use Rattle.dc_code.specs.declared.frame.Place.{Place}
 use Rattle.dc_code.specs.Combinations.{Span, value_count}

@@ -2,7 +2,6 @@
 use Rattle.std.proofs.Common.{◌≡◌, ℕ, refl, sym, ap, subst, ◌∙◌}
 use Rattle.std.specs.Prelude.{Result, Ok, Err}
 use Rattle.std.specs.Result.{IsErrAnd}
-use Rattle.dc_int.specs.declared.fault.Why.{Why}
 use Rattle.dc_code.specs.Computation.{done}
 use Rattle.dc_code.specs.Troubles.{Slots}
 use Rattle.dc_plain.specs.Views.{View}
@@ -11,7 +10,7 @@ use Rattle.dc_meaning.specs.Acts.{State, Act, ◌>>=◌, just}
 use Rattle.dc_meaning.specs.Actions.{Flow, on}
 use Rattle.dc_meaning.specs.Values.{Callee}
 use Rattle.dc_meaning.specs.Walking.{state_in, Answers, Walks, Stays}
-use Rattle.dc_meaning.proofs.Walking.{walks-then, walks-bad, walks-as, acts-then}
+use Rattle.dc_meaning.proofs.Walking.{walks-then, walks-bad, walks-as}
 use Rattle.dc_walk.specs.declared.flow.Flow as code
 use Rattle.dc_walk.specs.Flows.{flow_of, Spends, Finishes}
 

@@ -1,5 +1,5 @@
 -- What the walker does for single statements, tests and selectors.
-use Rattle.std.proofs.Common.{◌≡◌, ℕ, Bool, Some, refl, sym, ap, ◌∙◌}
+use Rattle.std.proofs.Common.{◌≡◌, ℕ, Bool, Some, sym, ap}
 use Rattle.std.specs.Prelude.{if◌then◌else◌}
 use Rattle.dc_int.specs.Reductions.{truth}
 use Rattle.dc_int.specs.Sorts.{fitted}

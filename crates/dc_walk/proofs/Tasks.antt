@@ -1,6 +1,5 @@
 -- The index of a loop that can be run, and the task of judging the loop.
 use Rattle.std.proofs.Common.{◌≡◌, ◌≤◌, ℕ, Bool, true, List, [], ◌∷◌, length, map, sym, ap, subst, ◌∙◌, arith}
-use Rattle.std.specs.List.{list_all}
 use Rattle.std.specs.Prelude.{Result}
 use Rattle.dc_code.specs.Loops.{Loop}
 use Rattle.dc_code.specs.Troubles.{Slots}

@@ -1,7 +1,6 @@
 -- A loop of a program that can be run is one that the plain judge visits.
 use Rattle.std.proofs.Common.{◌≡◌, ℕ, suc, Bool, true, false, List, [], ◌∷◌, map, Option, Some, None, refl, sym, ap, subst, ◌∙◌}
 use Rattle.std.specs.Prelude.{Result, Ok, Err, ℤ, slice_get, if◌then◌else◌, bytes_eq}
-use Rattle.dc_int.specs.declared.variable.Locality.{Locality}
 use Rattle.dc_int.specs.Entries.{store_after}
 use Rattle.dc_int.specs.Sorts.{Sort, whole}
 use Rattle.dc_int.specs.Store.{Store, value_at}

@@ -1,5 +1,5 @@
 -- Blocks of assignments alone are walked.
-use Rattle.std.proofs.Common.{◌≡◌, Bool, true, ◌&&◌, List, [], ◌∷◌, refl, ap₂}
+use Rattle.std.proofs.Common.{◌≡◌, true, ◌&&◌, [], ◌∷◌, refl, ap₂}
 use Rattle.std.proofs.lemmas.Bool.{and_parts}
 use Rattle.dc_tree.specs.Blocks.{Items, plain, branch, select, loop, none, and_then}
 use Rattle.dc_tree.specs.Entities.{Scope}

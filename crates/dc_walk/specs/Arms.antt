@@ -2,7 +2,7 @@
 use Rattle.std.specs.Prelude.{ℕ, ◌+◌, Bool, true, Option, Some, None, if◌then◌else◌, ℤ}
 use Rattle.std.specs.List.{list_any}
 use Rattle.dc_int.specs.Reductions.{truth}
-use Rattle.dc_tree.specs.Blocks.{Line, Arms, no_arms, arm}
+use Rattle.dc_tree.specs.Blocks.{Arms, no_arms, arm}
 use Rattle.dc_tree.specs.Entities.{Scope}
 use Rattle.dc_tree.specs.Statements as statements
 use Rattle.dc_tree.specs.Statements.{Statement}

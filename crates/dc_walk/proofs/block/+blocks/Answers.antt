@@ -1,4 +1,4 @@
-use Rattle.std.proofs.Common.{◌≡◌, ◌<◌, ◌≤◌, ◌+◌, ◌-◌, ◌∙◌, ◌∷◌, ℕ, suc, true, false, Some, map, refl, sym, ap, rules, arith, None}
+use Rattle.std.proofs.Common.{◌≡◌, ◌+◌, ◌-◌, ◌∙◌, suc, true, false, Some, map, refl, sym, ap, rules, arith, None}
 use Rattle.std.specs.Prelude.{option_map}
 use Rattle.std.specs.Option.{option_copied}
 use Rattle.std.specs.Int.{w64}
@@ -7,7 +7,7 @@ use Rattle.dc_int.specs.Sorts.{whole}
 use Rattle.dc_code.specs.declared.frame.Place.{Place}
 use Rattle.dc_code.specs.Combinations.{value_count}
 use Rattle.dc_tree.specs.declared.program.Block.{the_lemmas}
-use Rattle.dc_tree.specs.Blocks.{Line, Items, arms_from, item, items, items_from, part_items}
+use Rattle.dc_tree.specs.Blocks.{Line, Items, arms_from, items, part_items}
 use Rattle.dc_tree.specs.Entities.{entity}
 use Rattle.dc_tree.specs.Statements.{counted_ranging}
 use Rattle.dc_tree.specs.Syntax.{tree}

@@ -1,4 +1,4 @@
-use Rattle.std.proofs.Common.{◌≡◌, ◌-◌, drop, map, ℕ, IsTrue}
+use Rattle.std.proofs.Common.{◌-◌, drop, map, ℕ, IsTrue}
 use Rattle.std.specs.Prelude.{Result, option_map}
 use Rattle.std.specs.Option.{option_copied}
 use Rattle.dc_int.specs.Sorts.{whole}
@@ -8,7 +8,7 @@ use Rattle.dc_plain.specs.Views.{View}
 use Rattle.dc_tree.specs.Blocks.{arms_from, item, items, items_from, part_items}
 use Rattle.dc_tree.specs.Syntax.{tree}
 use Rattle.dc_meaning.specs.declared.stop.Stop.{Stop}
-use Rattle.dc_meaning.specs.Execution.{exec_all, exec_arms, while_do, counted_rounds, stepped}
+use Rattle.dc_meaning.specs.Execution.{exec_all, exec_arms, while_do, stepped}
 use Rattle.dc_meaning.specs.WalkScope.{scope_of, own_of, index_names}
 use Rattle.dc_walk.specs.declared.flow.Flow.{Flow}
 use Rattle.dc_walk.specs.Counting.{scalar_element, span_with}

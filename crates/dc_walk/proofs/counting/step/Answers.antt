@@ -1,13 +1,11 @@
-use Rattle.std.proofs.Common.{ap, sym, ◌≡◌, ◌∙◌, rules}
+use Rattle.std.proofs.Common.{ap, sym, ◌∙◌, rules}
 use Rattle.std.specs.Int.{w64}
 use Rattle.std.specs.Prelude.{◌+ℤ◌}
 use Rattle.std.proofs.lemmas.Int.{to_z-of_z}
 use Rattle.dc_int.specs.declared.access.ElementId.{ElementId}
-use Rattle.dc_int.specs.Entries.{Defines}
 use Rattle.dc_int.specs.Kinds.{wrapped}
 use Rattle.dc_int.specs.Sorts.{whole}
 use Rattle.dc_code.specs.declared.frame.Place.{Place}
-use Rattle.dc_plain.specs.Views.{noted}
 use Rattle.dc_meaning.specs.Execution.{stepped}
 use Rattle.dc_meaning.proofs.Walking.{handed, stays-as}
 use Rattle.dc_walk.proofs.Counts.{stepped-on, stepped-bad}

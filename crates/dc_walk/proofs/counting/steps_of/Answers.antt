@@ -1,7 +1,6 @@
 use Rattle.std.proofs.Common.{ap, sym, ◌∙◌, rules}
 use Rattle.std.specs.Int.{w64}
 use Rattle.std.proofs.lemmas.Int.{to_z-of_z}
-use Rattle.dc_int.specs.Kinds.{wrapped}
 use Rattle.dc_tree.specs.Statements.{counted_ranging}
 use Rattle.dc_meaning.specs.Execution.{checked_span}
 use Rattle.dc_meaning.specs.WalkScope.{scope_of, own_of}

@@ -1,6 +1,5 @@
 use Rattle.dc_meaning.proofs.Walking.{handed}
 use Rattle.std.proofs.Common.{refl}
-use Rattle.dc_meaning.proofs.Storing.{goes_on}
 use Rattle.dc_walk.specs.declared.flow.Flow.{Flow}
 use Rattle.dc_walk.specs.Flows.{flow_of}
 use Rattle.dc_walk.proofs.Spending.{stays-told, stays-failed}

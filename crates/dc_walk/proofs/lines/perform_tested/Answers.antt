@@ -1,4 +1,4 @@
-use Rattle.std.proofs.Common.{ap, refl}
+use Rattle.std.proofs.Common.{ap}
 use Rattle.dc_tree.specs.Statements.{deed}
 use Rattle.dc_tree.specs.Syntax.{tree}
 use Rattle.dc_meaning.specs.WalkScope.{scope_of}

@@ -1,4 +1,4 @@
-use Rattle.std.proofs.Common.{rules, ap, sym, ◌≡◌, ◌∙◌, Bool, Some, Option}
+use Rattle.std.proofs.Common.{rules, ap, ◌≡◌, Bool, Some, Option}
 use Rattle.std.specs.Option.{option_copied}
 use Rattle.std.specs.Prelude.{option_map}
 use Rattle.dc_int.specs.Reductions.{truth}
