@@ -6,8 +6,7 @@ use Rattle.dc_code.specs.Troubles.{Slots}
 use Rattle.dc_int.specs.declared.kind.Kind.{Kind}
 use Rattle.dc_int.specs.Sorts.{whole, kind_of}
 use Rattle.dc_tree.specs.declared.symbols.Symbol.{Symbol}
-use Rattle.dc_tree.specs.Blocks.{Item, Items, plain}
-use Rattle.dc_form.specs.BuiltPrograms.{is_built_inside, spares, all_spare}
+use Rattle.dc_form.specs.BuiltPrograms.{spares}
 use Rattle.dc_tree.specs.Entities.{Entity, Scope, slots, entity, main_scope, with_names}
 use Rattle.dc_tree.specs.Statements.{Name, Statement}
 use Rattle.dc_tree.specs.Typing.{sort_of_entity}
@@ -36,9 +35,6 @@ index_names standing = map (λ (index : IndexName). index.name) standing.indexes
 abbrev pub spared : List Name → Statement → Bool
 spared names says = list_all (λ name. spares name says) names
 
-abbrev pub all_spared : List Name → Items → Bool
-all_spared names block = list_all (λ name. all_spare name block) names
-
 -- ---- the block of a loop with one index
 
 abbrev pub kind_of_index : List Symbol → Name → Kind
@@ -56,13 +52,3 @@ is_slots other = false
 
 abbrev pub is_spared_name : List Name → Name → Bool
 is_spared_name names name = list_all (λ index. not (bytes_eq name index)) names
-
--- ---- a statement of a block
-
-abbrev pub is_built_line : Item → Bool
-is_built_line (plain line) = is_built_inside line.says
-is_built_line other = false
-
-abbrev pub spared_item : List Name → Item → Bool
-spared_item names (plain line) = spared names line.says
-spared_item names other = false

@@ -19,6 +19,8 @@ pub use assignment::act;
 pub use expressions::value;
 pub use indexes::{block_standing, first_index, index_kind, index_list};
 pub use law::what_is_seen_is_a_run;
+pub use reading::read;
 pub use reference::function_named;
+pub use settling::fault;
 pub use stop::Stop;
 pub use walk::Walk;

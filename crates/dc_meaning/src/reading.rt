@@ -38,7 +38,7 @@ pub(crate) fn element_of(
 }
 
 /// A reference to an element, which has to be defined.
-pub(crate) fn read(ledger: &mut Ledger, line: u32, element: ElementId) -> Result<i64, Stop>
+pub fn read(ledger: &mut Ledger, line: u32, element: ElementId) -> Result<i64, Stop>
     ensures { (own : Slots) → Stays (λ z. z) own ledger.old
         (λ call. acts.refer_to line (Place.Outer element)) ledger.new result }
 {

@@ -13,7 +13,7 @@ use crate::stop::Stop;
 use dc_int::{FaultKind, OpFault, Why};
 
 /// The end by a fault at a line.
-pub(crate) fn fault(kind: FaultKind, line: u32) -> Stop
+pub fn fault(kind: FaultKind, line: u32) -> Stop
     ensures { result ≡ Stop.Failed (Why.Fault kind) line }
 {
     Stop::Failed {

@@ -54,7 +54,7 @@ keeps-fitting symbols source turns number built =
           shapes-alike (symbols_in 0 symbols) 0 _ ∙ visit-fits symbols source built turns number [] (declared_shapes symbols) (shapes-sorted symbols) left store there;
     }
 
-pub are-reachable : (symbols : List Symbol) (source : Source) (turns : ℕ) → IsLowerable symbols source → AreReachable (program_forms symbols source turns) symbols (lowered symbols source) source.body
+pub are-reachable : (symbols : List Symbol) (source : Source) (turns : ℕ) → IsLowerable symbols source → AreReachable (program_forms symbols source turns) symbols (lowered symbols source) turns source.body
 unfolding loop_in
 are-reachable symbols source turns able =
     record {
@@ -123,25 +123,29 @@ comes-to symbols source turns given after ending by_code ends =
 
 -- ---- what is run
 
-reachable-as : (forms : Forms) (symbols names : List Symbol) (code other : CodeLists) (body items : Items) → names ≡ symbols → other ≡ code → items ≡ body
-    → AreReachable forms symbols code body → AreReachable forms names other items
-reachable-as forms symbols names code other body items same coded stands reachable =
-    subst (λ s. AreReachable forms s other items) (sym same) (subst (λ c. AreReachable forms symbols c items) (sym coded) (subst (λ i. AreReachable forms symbols code i) (sym stands) reachable))
+reachable-as : (forms : Forms) (symbols names : List Symbol) (turns : ℕ) (code other : CodeLists) (body items : Items) → names ≡ symbols → other ≡ code → items ≡ body
+    → AreReachable forms symbols code turns body → AreReachable forms names other turns items
+reachable-as forms symbols names turns code other body items same coded stands reachable =
+    subst (λ s. AreReachable forms s other turns items) (sym same)
+    (subst (λ c. AreReachable forms symbols c turns items) (sym coded) (subst (λ i. AreReachable forms symbols code turns i) (sym stands) reachable))
 
 today-as : (many loops : ℕ) (code other : CodeLists) → loops ≡ many → other ≡ code → list_all (λ (instr : Instr). is_of_today many instr.what) code.instructions ≡ true
     → list_all (λ (instr : Instr). is_of_today loops instr.what) other.instructions ≡ true
 today-as many loops code other same coded today = (λ i. list_all (λ (instr : Instr). is_of_today (same i) instr.what) (coded i).instructions) ∙ today
 
 pub task-is : (symbols : List Symbol) (source : Source) (turns : ℕ) (task : Task) → IsLowerable symbols source → source.body ≡ items_from (map item task.nodes.now) → task.symbols.now ≡ symbols
-    → task.code.now ≡ lowered symbols source → task.numbering.now ≡ numbers_of symbols → task.loops.now ≡ loop_places 0 (map item task.nodes.now) → length task.code.now.instructions < 4294967296
+    → task.code.now ≡ lowered symbols source → task.numbering.now ≡ numbers_of symbols → task.loops.now ≡ loop_places 0 (map item task.nodes.now) → length task.code.now.instructions < 4294967296 → task.turns ≡ turns
     → IsTask (program_forms symbols source turns) task
-task-is symbols source turns task able body names code numbers places few =
+task-is symbols source turns task able body names code numbers places few given =
     let many : length task.loops.now ≡ length (program_loops symbols source 0) = ap length places ∙ loops-counted symbols source task.nodes.now able.built body in
     record {
       names = ap are_built_symbols names ∙ (built-source symbols source able.built).names;
       numbers = numbers ∙ ap numbers_of (sym names);
       places = places;
-      reachable = reachable-as (program_forms symbols source turns) symbols task.symbols.now (lowered symbols source) task.code.now source.body (items_from (map item task.nodes.now)) names code (sym body) (are-reachable symbols source turns able);
+      reachable =
+          subst (λ (t : ℕ). AreReachable (program_forms symbols source turns) task.symbols.now task.code.now t (items_from (map item task.nodes.now))) (sym given)
+          (reachable-as (program_forms symbols source turns) symbols task.symbols.now turns (lowered symbols source) task.code.now source.body (items_from (map item task.nodes.now)) names code (sym body)
+          (are-reachable symbols source turns able));
       few = few;
       today = today-as (length (program_loops symbols source 0)) (length task.loops.now) (lowered symbols source) task.code.now many code (code-enters-its-loops symbols source able);
     }

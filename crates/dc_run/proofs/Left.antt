@@ -31,20 +31,20 @@ left-fits code loop keeps turns left before after said visit fits =
 abbrev pub behind : standings.Standing → Variables → standings.Standing
 behind before after = record { variables = after; frame = before.frame; output = before.output }
 
-pub usual-behind : (symbols : List Symbol) (code : CodeLists) (loop : Loop) (number : ℕ) (head : Line) (block : Items) (turns left : ℕ) (before : standings.Standing) (after : Variables) (said : answers.Verdict) → IsReachable loop symbols code number head block
+pub usual-behind : (symbols : List Symbol) (code : CodeLists) (loop : Loop) (number : ℕ) (head : Line) (block : Items) (given turns left : ℕ) (before : standings.Standing) (after : Variables) (said : answers.Verdict) → IsReachable loop symbols code given number head block
     → after.shapes ≡ before.variables.shapes → IsVisitWith loop turns left before.variables.ledger.store after.ledger.store said → IsUsual symbols code before → IsUsual symbols code (behind before after)
-usual-behind symbols code loop number head block turns left before after said reachable shapes visit usual =
+usual-behind symbols code loop number head block given turns left before after said reachable shapes visit usual =
     record {
       shape = shape-then (first_store symbols) before.variables.ledger.store after.ledger.store usual.shape (left-shape loop reachable.keeps turns left before.variables.ledger.store after.ledger.store said visit);
       ready = record { same = shapes ∙ usual.ready.same; fits = left-fits code loop reachable.fits turns left before.variables.ledger.store after.ledger.store said visit usual.ready.fits };
       room = usual.room;
     }
 
-pub attended-behind : (forms : Forms) (symbols : List Symbol) (code : CodeLists) (number : ℕ) (head : Line) (block : Items) (at turns left line : ℕ) (before : standings.Standing) (after : Variables) (said : answers.Verdict) (step : Step)
-    → IsReachable (loop_in forms number) symbols code number head block → IsUsual symbols code before → IsVisitWith (loop_in forms number) turns left before.variables.ledger.store after.ledger.store said
+pub attended-behind : (forms : Forms) (symbols : List Symbol) (code : CodeLists) (number : ℕ) (head : Line) (block : Items) (given at turns left line : ℕ) (before : standings.Standing) (after : Variables) (said : answers.Verdict) (step : Step)
+    → IsReachable (loop_in forms number) symbols code given number head block → IsUsual symbols code before → IsVisitWith (loop_in forms number) turns left before.variables.ledger.store after.ledger.store said
     → step ≡ step_behind at (min left turns) (stopped_by said) → slice_get code.instructions at ≡ Some (record { line = line; what = What.Enter number })
     → Attends (looping_in forms) symbols code at turns before (behind before after) step
-attended-behind forms symbols code number head block at turns left line before after said step reachable usual visit is found =
+attended-behind forms symbols code number head block given at turns left line before after said step reachable usual visit is found =
     subst (Attends (looping_in forms) symbols code at turns before (behind before after)) (sym is)
     (loop-attended forms symbols code at turns left line number before after said found visit
     (bounds-known symbols before.variables.ledger.store said usual.shape)

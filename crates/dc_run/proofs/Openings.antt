@@ -63,7 +63,7 @@ pub record HasOpened (loop : Loop) (turns : ℕ) (frame : Frame) (before after :
   pub kept : after ≡ before
   pub is : reached ≡ told (λ (w : List Span × ℕ). (with_stack (stack_of w.0) frame, w.1)) (over before.store (loop.form.header turns)).reached
 
-pub has-opened : {symbols : List Symbol} {code : CodeLists} {loop : Loop} {number : ℕ} {head : Line} {block : Items} → IsReachable loop symbols code number head block
+pub has-opened : {symbols : List Symbol} {code : CodeLists} {loop : Loop} {given number : ℕ} {head : Line} {block : Items} → IsReachable loop symbols code given number head block
     → (turns : ℕ) (construct : ConstructCode) (frame : Frame) (before after : Held) (reached : Reached Event Failure (Frame × ℕ)) → slice_get code.constructs number ≡ Some construct
     → frame ≡ new_frame code construct.header → over_held before (machine code construct.header frame turns) ≡ record { meaning = after; reached = reached }
     → HasOpened loop turns (new_frame code construct.header) before after reached
@@ -87,7 +87,7 @@ pub record HasLimits (loop : Loop) (turns : ℕ) (store : Store) (frame : Frame)
   pub step : span.step ≡ pos 1
   pub stack : frame.stack ≡ Item.Value span.step ∷ Item.Value span.last ∷ Item.Value span.first ∷ []
 
-module _ {symbols : List Symbol} {code : CodeLists} {loop : Loop} {number : ℕ} {head : Line} {block : Items} (reachable : IsReachable loop symbols code number head block) (turns : ℕ) (fresh : Frame) (before after : Held) where
+module _ {symbols : List Symbol} {code : CodeLists} {loop : Loop} {given number : ℕ} {head : Line} {block : Items} (reachable : IsReachable loop symbols code given number head block) (turns : ℕ) (fresh : Frame) (before after : Held) where
   abbrev Came : Reached Event Failure (Frame × ℕ) → Type 0
   Came reached = HasOpened loop turns fresh before after reached
 

@@ -83,15 +83,15 @@ pub record IsUsual (symbols : List Symbol) (code : CodeLists) (standing : standi
 pub record KeepsFitting (code : CodeLists) (loop : Loop) : Type 0 where
   pub each : (turns : ℕ) (store : Store) → IsTrue (store_fits code.shapes store) → IsTrue (store_fits code.shapes (visited judging loop turns store).store)
 
--- What is known of the loop of a number: its header gives the values of its index or comes to a fault, and so does its
+-- What is known of the loop of a number, each of whose iterations has so many turns: its header gives the values of its index or comes to a fault, and so does its
 -- code; its accesses are of elements that are there, and it keeps elements, bounds and sorts.
-pub record IsReachable (loop : Loop) (symbols : List Symbol) (code : CodeLists) (number : ℕ) (head : Line) (block : Items) : Type 0 where
-  pub visitable : IsVisitable loop symbols head.line head.says block
+pub record IsReachable (loop : Loop) (symbols : List Symbol) (code : CodeLists) (turns number : ℕ) (head : Line) (block : Items) : Type 0 where
+  pub visitable : IsVisitable loop symbols turns head.line head.says block
   pub headed : HasHeader code number loop.form
   pub owns : AccessesOwn symbols loop
   pub keeps : KeepsShape loop
   pub fits : KeepsFitting code loop
 
 -- The same of each loop of a main program.
-pub record AreReachable (forms : Forms) (symbols : List Symbol) (code : CodeLists) (items : Items) : Type 0 where
-  pub each : (number : ℕ) (head : Line) (block : Items) → nth_loop number items ≡ Some (head, block) → IsReachable (loop_in forms number) symbols code number head block
+pub record AreReachable (forms : Forms) (symbols : List Symbol) (code : CodeLists) (turns : ℕ) (items : Items) : Type 0 where
+  pub each : (number : ℕ) (head : Line) (block : Items) → nth_loop number items ≡ Some (head, block) → IsReachable (loop_in forms number) symbols code turns number head block

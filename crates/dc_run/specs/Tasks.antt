@@ -28,7 +28,7 @@ pub record IsTask (forms : Forms) (task : Task) : Type 0 where
   pub names : IsTrue (are_built_symbols task.symbols.now)
   pub numbers : task.numbering.now ≡ numbers_of task.symbols.now
   pub places : task.loops.now ≡ loop_places 0 (map item task.nodes.now)
-  pub reachable : AreReachable forms task.symbols.now task.code.now (items_from (map item task.nodes.now))
+  pub reachable : AreReachable forms task.symbols.now task.code.now task.turns (items_from (map item task.nodes.now))
   pub few : length task.code.now.instructions < 4294967296
   pub today : list_all (λ (instr : Instr). is_of_today (length task.loops.now) instr.what) task.code.now.instructions ≡ true
 

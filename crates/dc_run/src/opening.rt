@@ -49,7 +49,7 @@ pub(crate) fn open(
     variables: &mut Variables,
 ) -> Result<Opened, NoMemory>
     ghost parts: { Loop }
-    requires reachable { IsReachable parts task.symbols.now task.code.now found.number
+    requires reachable { IsReachable parts task.symbols.now task.code.now task.turns found.number
         (line_of found.head.now) (items found.body.now) }
     requires few { length task.code.now.instructions < 4294967296 }
     requires ready { AreReady task.code.now (λ (held : Held). held.shapes)

@@ -50,6 +50,7 @@ fn run_lowered(
         code,
         nodes,
         loops: loops.as_slice(),
+        turns,
     };
     let mut standing = begin(alloc, symbols, code)?;
     let ending = run_code(alloc, task, turns, &mut standing)?;
@@ -59,7 +60,7 @@ fn run_lowered(
     })
 }
 
-/// Runs a main program with so many turns: what it writes, and how it ends. No program of today spends one.
+/// Runs a main program with so many turns, and as many for each iteration: what it writes, and how it ends.
 pub(crate) fn run_program(
     alloc: Global,
     program: &Program,

@@ -68,7 +68,7 @@ fn judge_loop(
 ) -> Result<Judged, NoMemory>
     ghost parts: { Loop }
     requires numbers { task.numbering.now ≡ numbers_of task.symbols.now }
-    requires reachable { IsReachable parts task.symbols.now task.code.now found.number
+    requires reachable { IsReachable parts task.symbols.now task.code.now task.turns found.number
         (line_of found.head.now) (items found.body.now) }
     requires few { length task.code.now.instructions < 4294967296 }
     requires ready { AreReady task.code.now (λ (held : Held). held.shapes)
@@ -87,6 +87,7 @@ fn judge_loop(
                 found.head,
                 found.body,
                 limits,
+                task.turns,
                 ledger,
             )?;
             Ok(Judged { said, turns })

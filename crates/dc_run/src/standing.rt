@@ -16,8 +16,8 @@ pub(crate) struct Standing {
     pub output: DcText,
 }
 
-/// A program that is run: its names, its code, and the statements of its main program with the places of the
-/// loops among them, in their order.
+/// A program that is run: its names, its code, the statements of its main program with the places of the loops
+/// among them, in their order, and the turns of each iteration.
 #[derive(Clone, Copy)]
 pub(crate) struct Task<'a> {
     pub symbols: &'a Symbols,
@@ -25,6 +25,7 @@ pub(crate) struct Task<'a> {
     pub code: &'a Code,
     pub nodes: &'a [Node],
     pub loops: &'a [usize],
+    pub turns: u64,
 }
 
 /// A loop of the main program: its number, its header and its block.

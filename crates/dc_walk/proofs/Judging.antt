@@ -13,22 +13,21 @@ use Rattle.dc_sorts.specs.Standing.{standing_of, scope_at}
 use Rattle.dc_tree.specs.Blocks.{items}
 use Rattle.dc_meaning.specs.declared.stop.Stop.{Stop}
 use Rattle.dc_walk.specs.declared.task.Task.{Task}
-use Rattle.dc_meaning.specs.Actions as actions
 use Rattle.dc_meaning.specs.Execution.{exec_all}
 use Rattle.dc_walk.specs.Judging.{IsDoneBy, IsOne, IsTask, fresh, combination, bad_of, runs_of}
-use Rattle.dc_meaning.specs.Walking.{Stays}
+use Rattle.dc_walk.specs.Flows.{Finishes}
 
 -- What the walker does for the block of a task, for a value of its index.
 abbrev pub IsCarriedOut : Task → ℤ → View → View → Result (Unit {0}) Stop → Type 0
 IsCarriedOut task z before after result =
-    (number : ℕ) → Stays (λ done. actions.on) ((Some z ∷ []) ∷ []) before (λ call. exec_all (scope_at (standing_of task.standing)) call number (items task.body.now)) after result
+    (number : ℕ) → Finishes ((Some z ∷ []) ∷ []) task.turns before (λ call. exec_all (scope_at (standing_of task.standing)) call number (items task.body.now)) after result
 
 -- Over a view that has no entries yet this is an iteration.
 pub iterated : (parts : Loop) (task : Task) → IsTask parts task → (given z : ℤ) → given ≡ z → (store : Store) (before after : View) (result : Result (Unit {0}) Stop) → before ≡ fresh store
     → IsCarriedOut task given before after result → IsDoneBy (parts.block store [] (combination z)) after result
-iterated parts task is given z same store before after result fresh_is stays =
+iterated parts task is given z same store before after result fresh_is finishes =
     subst (λ y. IsDoneBy (parts.block store [] (combination y)) after result) same
-    (is.run.runs given store after result (subst (λ (b : View). IsCarriedOut task given b after result) fresh_is stays))
+    (is.run.runs given store after result (subst (λ (b : View). IsCarriedOut task given b after result) fresh_is finishes))
 
 -- ---- one iteration among those that are left
 

@@ -19,15 +19,16 @@ use Rattle.dc_tree.specs.Entities.{main_scope}
 use Rattle.dc_walk.specs.declared.alone_out.AloneOut.{AloneOut}
 use Rattle.dc_meaning.specs.declared.stop.Stop.{Stop}
 use Rattle.dc_meaning.specs.Acts.{Act}
-use Rattle.dc_meaning.specs.Actions.{Flow, on}
+use Rattle.dc_meaning.specs.Actions.{Flow}
 use Rattle.dc_walk.specs.Alone.{trouble_of, Tells, block_alone, iteration_alone, Ends}
 use Rattle.dc_meaning.specs.Looping.{nth_loop, index_name}
 use Rattle.dc_meaning.specs.Execution.{exec_all}
 use Rattle.dc_meaning.specs.Headers.{inside_frame}
 use Rattle.dc_meaning.specs.Programs.{surroundings, program_forms}
+use Rattle.dc_walk.specs.Flows.{Finishes}
 use Rattle.dc_walk.specs.Telling.{IsTold}
 use Rattle.dc_meaning.specs.Values.{Callee}
-use Rattle.dc_meaning.specs.Walking.{seen_over, state_in, Stays}
+use Rattle.dc_meaning.specs.Walking.{seen_over, state_in}
 use Rattle.dc_meaning.specs.WalkScope.{index_scope}
 use Rattle.dc_meaning.proofs.Looping.{concurrent-with, block-form}
 use Rattle.dc_meaning.proofs.ProgramLoops.{form-is, loop-at, none-at, no-copies}
@@ -133,28 +134,28 @@ if-ok P Q (Err e) leads holds = tt
 
 -- ---- the block of an iteration
 
-ends-stays : {own : Slots} {before after : View} {act : Callee → Act Flow} (call : Callee) (turns : ℕ) (r : Result (Unit {0}) Stop) → Stays (λ done. on) own before act after r
+ends-finishes : {own : Slots} {before after : View} {act : Callee → Act Flow} (call : Callee) (turns : ℕ) (r : Result (Unit {0}) Stop) → Finishes own turns before act after r
     → Ends before (inside_frame own turns (act call) (λ flow left. left)) after r
-ends-stays {own = own} {before = before} {act = act} call turns (Ok well) stays =
-    record { answers = (turns, seen-then before (act call (state_in own turns)) (λ w. give (w.1).turns) ∙ ap (λ w. then w (λ w. give (w.1).turns)) ((stays.each turns).answers call)) }
-ends-stays {own = own} {before = before} {act = act} call turns (Err (Stop.Failed why line)) stays =
-    record { answers = seen-then before (act call (state_in own turns)) (λ w. give (w.1).turns) ∙ ap (λ w. then w (λ w. give (w.1).turns)) ((stays.each turns).answers call) }
-ends-stays call turns (Err Stop.NoMemory) stays = record { answers = tt }
+ends-finishes {own = own} {before = before} {act = act} call turns (Ok well) finishes =
+    record { answers = (finishes.left, seen-then before (act call (state_in own turns)) (λ w. give (w.1).turns) ∙ ap (λ w. then w (λ w. give (w.1).turns)) (finishes.walks.answers call)) }
+ends-finishes {own = own} {before = before} {act = act} call turns (Err (Stop.Failed why line)) finishes =
+    record { answers = seen-then before (act call (state_in own turns)) (λ w. give (w.1).turns) ∙ ap (λ w. then w (λ w. give (w.1).turns)) (finishes.walks.answers call) }
+ends-finishes call turns (Err Stop.NoMemory) finishes = record { answers = tt }
 
 ends-as : {before after : View} {c other : Computing ℕ} {r : Result (Unit {0}) Stop} → c ≡ other → Ends before other after r → Ends before c after r
 ends-as {before = before} {after = after} {r = r} same ends = subst (λ d. Ends before d after r) (sym same) ends
 
 module _ (symbols : List Symbol) (source : Source) (form : is_built symbols source ≡ true) (number : ℕ) where
   pub loop-ends : {before after : View} {r : Result (Unit {0}) Stop} (head : Line) (body : Items) (z : ℤ) (turns : ℕ) → Some (head, body) ≡ nth_loop number source.body
-      → ((counted : ℕ) → Stays (λ done. on) ((Some z ∷ []) ∷ []) before (λ call. exec_all (index_scope symbols (index_name head.says)) call counted body) after r)
+      → ((counted : ℕ) → Finishes ((Some z ∷ []) ∷ []) turns before (λ call. exec_all (index_scope symbols (index_name head.says)) call counted body) after r)
       → Ends before (block_alone symbols source number (z ∷ []) turns) after r
-  loop-ends {r = r} head body z turns is stays =
+  loop-ends {r = r} head body z turns is finishes =
       let at = loop-at symbols source form number turns head body is in
       let within = surroundings symbols source turns in
       ends-as
       (ap (λ (f : Form). f.block [] (z ∷ [])) (form-is symbols source turns number [] (Some (concurrent-with (main_scope symbols) at.counted head body at.built.ranging)) at.at)
       ∙ block-form within symbols at.counted head body at.built z)
-      (ends-stays within.call within.turns r (stays (suc at.counted)))
+      (ends-finishes within.call within.turns r (finishes (suc at.counted)))
 
   pub none-ends : {view : View} (z : ℤ) (turns : ℕ) → None ≡ nth_loop number source.body → Ends view (block_alone symbols source number (z ∷ []) turns) view (Ok tt)
   none-ends z turns is =
@@ -164,7 +165,7 @@ module _ (symbols : List Symbol) (source : Source) (form : is_built symbols sour
 
 pub alone-tells : (program : Program) (symbols : List Symbol) (number : ℕ) (combination : List ℤ) (opening : List (Option ℤ)) (turns : ℕ) (cells after : View) (z : ℤ) (result : Result (Unit {0}) Stop) (out : AloneOut)
     → is_built symbols (source_of program) ≡ true → cells ≡ record { store = store_with symbols opening; entries = [] } → combination ≡ z ∷ []
-    → ((turns : ℕ) → Ends cells (block_alone symbols (source_of program) number (z ∷ []) turns) after result) → IsTold after.entries result out
+    → Ends cells (block_alone symbols (source_of program) number (z ∷ []) turns) after result → IsTold after.entries result out
     → Tells (iteration_alone program symbols number combination opening turns) out
 alone-tells program symbols number combination opening turns cells after z result out form cells-is given ends told =
     let source = source_of program in
@@ -173,5 +174,5 @@ alone-tells program symbols number combination opening turns cells after z resul
     let store = store_with symbols opening in
     told-tells (λ inside left around here orders. inner judging (nested_loop judging forms 63 inside around) left here orders) store (loop.block (map (value_at store) loop.copied) combination) after result out
     (ends-as (λ i. loop.block (map (value_at store) (no-copies symbols source form number turns i)) (given i))
-    (subst (λ v. Ends v (loop.block [] (z ∷ [])) after result) cells-is (ends turns)))
+    (subst (λ v. Ends v (loop.block [] (z ∷ [])) after result) cells-is ends))
     told

@@ -1,6 +1,5 @@
 -- The index of a loop that can be run, and the task of judging the loop.
-use Rattle.std.proofs.Common.{◌≡◌, ◌≤◌, ◌&&◌, ℕ, true, List, [], ◌∷◌, length, map, sym, ap, subst, ◌∙◌, arith}
-use Rattle.std.specs.List.{list_all}
+use Rattle.std.proofs.Common.{◌≡◌, ◌≤◌, ℕ, Bool, true, List, [], ◌∷◌, length, map, sym, ap, subst, ◌∙◌, arith}
 use Rattle.std.specs.Prelude.{Result}
 use Rattle.dc_code.specs.Loops.{Loop}
 use Rattle.dc_code.specs.Troubles.{Slots}
@@ -11,7 +10,7 @@ use Rattle.dc_sorts.specs.declared.standing.IndexName.{IndexName}
 use Rattle.dc_sorts.specs.Standing.{standing_of, scope_at, index_entity, unit_scope}
 use Rattle.dc_tree.specs.declared.symbols.Symbol.{Symbol}
 use Rattle.dc_tree.specs.Blocks.{Items, items}
-use Rattle.dc_form.specs.BuiltPrograms.{is_built_block, all_spare, are_built_symbols, is_built_loop}
+use Rattle.dc_form.specs.BuiltPrograms.{all_spare, are_built_symbols, is_built_loop}
 use Rattle.dc_tree.specs.Entities.{Scope, main_scope, with_names}
 use Rattle.dc_tree.specs.Statements.{Ranging, Statement}
 use Rattle.dc_meaning.specs.declared.stop.Stop.{Stop}
@@ -21,8 +20,12 @@ use Rattle.dc_meaning.specs.Looping.{index_name, first_index}
 use Rattle.dc_walk.specs.Judging.{IsRunBy, IsTask}
 use Rattle.dc_meaning.specs.Values.{Callee}
 use Rattle.dc_walk.specs.Visiting.{IsVisitable}
-use Rattle.dc_meaning.specs.Walking.{Stays}
-use Rattle.dc_meaning.specs.WalkScope.{index_names, all_spared, kind_of_index, index_scope}
+use Rattle.dc_meaning.specs.Actions.{Flow}
+use Rattle.dc_meaning.specs.WalkScope.{index_names, kind_of_index, index_scope}
+use Rattle.dc_meaning.proofs.Walking.{walks-as}
+use Rattle.dc_walk.specs.Flows.{Finishes}
+use Rattle.dc_walk.specs.Walked.{is_walked_block}
+use Rattle.dc_walk.proofs.Walkable.{built-walked}
 use Rattle.dc_meaning.proofs.Looping.{BuiltLoop, built-loop}
 
 -- ---- the index
@@ -37,11 +40,8 @@ module _ (symbols : List Symbol) (head : Statement) (block : Items) (built : is_
   pub index-named : index_name head ≡ ranging.name
   index-named = ap index_name here.is ∙ ap (λ (r : Ranging). r.name) same
 
-  pub block-built : is_built_block block ≡ true
-  block-built = here.block
-
-  pub block-spared : all_spare ranging.name block ≡ true
-  block-spared = ap (λ (r : Ranging). all_spare r.name block) (sym same) ∙ here.spared
+  pub block-walked : (scope : Scope) → is_walked_block scope (ranging.name ∷ []) block ≡ true
+  block-walked scope = built-walked scope ranging.name block here.block (ap (λ (r : Ranging). all_spare r.name block) (sym same) ∙ here.spared)
 
 -- ---- the task
 
@@ -72,30 +72,36 @@ module _ (task : Task) (symbols : List Symbol) (ranging : Ranging) (block : Item
       one : length task.standing.indexes.now ≤ 1
       one = omega (arith, counted)
 
-  pub task-built : is_built_block block ≡ true → is_built_block (items task.body.now) ≡ true
-  task-built built = ap is_built_block of.body ∙ built
+  abbrev pub walked-with : Scope → List IndexName → Items → Bool
+  walked-with scope indexes body = is_walked_block scope (map (λ (index : IndexName). index.name) indexes) body
 
-  pub task-spared : all_spare ranging.name block ≡ true → all_spared (index_names task.standing) (items task.body.now) ≡ true
-  task-spared spared =
-      (λ i. list_all (λ name. all_spare name (of.body i)) (map (λ (index : IndexName). index.name) (of.indexes i)))
-      ∙ ap (λ b. b && true) spared
+  pub task-walked : ((scope : Scope) → is_walked_block scope (ranging.name ∷ []) block ≡ true)
+      → is_walked_block (scope_at (standing_of task.standing)) (index_names task.standing) (items task.body.now) ≡ true
+  task-walked walked =
+      (λ i. walked-with (scope_at (standing_of task.standing)) (of.indexes i) (of.body i)) ∙ walked (scope_at (standing_of task.standing))
 
 -- The task of a loop that can be visited.
-pub task-is : (parts : Loop) (symbols : List Symbol) (line : ℕ) (head : Statement) (block : Items) (ranging : Ranging) (task : Task) → IsVisitable parts symbols line head block
-    → first_index head ranging → IsTaskOf task symbols ranging block → IsTask parts task
-task-is parts symbols line head block ranging task loop first of =
+pub task-is : (parts : Loop) (symbols : List Symbol) (turns line : ℕ) (head : Statement) (block : Items) (ranging : Ranging) (task : Task) → IsVisitable parts symbols turns line head block
+    → first_index head ranging → IsTaskOf task symbols ranging block → task.turns ≡ turns → IsTask parts task
+task-is parts symbols turns line head block ranging task loop first of given =
     let scope = task-scope task symbols ranging block of ∙ ap (index_scope symbols) (sym (index-named symbols head block loop.built ranging first)) in
     record {
       named = task-named task symbols ranging block of loop.names;
-      built = task-built task symbols ranging block of (block-built symbols head block loop.built ranging first);
-      spared = task-spared task symbols ranging block of (block-spared symbols head block loop.built ranging first);
-      run = subst (λ (s : Scope). IsRunBy parts s (items task.body.now)) (sym scope) (subst (IsRunBy parts (index_scope symbols (index_name head))) (sym of.body) loop.run);
+      walked = task-walked task symbols ranging block of (block-walked symbols head block loop.built ranging first);
+      run =
+          subst (λ (t : ℕ). IsRunBy parts t (scope_at (standing_of task.standing)) (items task.body.now)) (sym given)
+          (subst (λ (s : Scope). IsRunBy parts turns s (items task.body.now)) (sym scope) (subst (IsRunBy parts turns (index_scope symbols (index_name head))) (sym of.body) loop.run));
       plainly = loop.plainly;
     }
 
 -- ---- the entities of an iteration
 
--- an act in entities that are others
-pub stays-in : {A B : Type 0} {tell : A → B} {own other : Slots} {before after : View} {act : Callee → Act B} {r : Result A Stop} → own ≡ other → Stays tell own before act after r
-    → Stays tell other before act after r
-stays-in {tell = tell} {before = before} {after = after} {act = act} {r = r} same stays = subst (λ (o : Slots). Stays tell o before act after r) same stays
+-- a block in entities that are others
+pub finishes-in : {own other : Slots} {turns : ℕ} {before after : View} {act : Callee → Act Flow} {r : Result (Unit {0}) Stop} → own ≡ other → Finishes own turns before act after r
+    → Finishes other turns before act after r
+finishes-in {turns = turns} {before = before} {after = after} {act = act} {r = r} same finishes = subst (λ (o : Slots). Finishes o turns before act after r) same finishes
+
+-- and with what it does told otherwise
+pub finishes-as : {own : Slots} {turns : ℕ} {before after : View} {act other : Callee → Act Flow} {r : Result (Unit {0}) Stop} → ((call : Callee) → act call ≡ other call)
+    → Finishes own turns before other after r → Finishes own turns before act after r
+finishes-as same finishes = record { flow = finishes.flow; left = finishes.left; walks = walks-as same finishes.walks }

@@ -1,7 +1,6 @@
 -- A loop of a program that can be run is one that the plain judge visits.
 use Rattle.std.proofs.Common.{◌≡◌, ℕ, suc, Bool, true, false, List, [], ◌∷◌, map, Option, Some, None, refl, sym, ap, subst, ◌∙◌}
 use Rattle.std.specs.Prelude.{Result, Ok, Err, ℤ, slice_get, if◌then◌else◌, bytes_eq}
-use Rattle.dc_int.specs.declared.variable.Locality.{Locality}
 use Rattle.dc_int.specs.Entries.{store_after}
 use Rattle.dc_int.specs.Sorts.{Sort, whole}
 use Rattle.dc_int.specs.Store.{Store, value_at}
@@ -145,11 +144,11 @@ module _ (symbols : List Symbol) (source : Source) (turns number : ℕ) (head : 
   pub passage-is : (store : Store) (z : ℤ) → (loop_parts symbols source turns number).block store [] (z ∷ []) ≡ through entering store [] (block_alone symbols source number (z ∷ []) turns)
   passage-is store z = λ i. through entering store [] ((program_forms symbols source turns number []).block (map (value_at store) (no-copies symbols source form number turns i)) (z ∷ []))
 
-  runs-by : IsRunBy (loop_parts symbols source turns number) scope-here block
+  runs-by : IsRunBy (loop_parts symbols source turns number) turns scope-here block
   runs-by = record {
-    runs = λ z store after result stays.
+    runs = λ z store after result finishes.
         subst (λ (p : Passage). IsDoneBy p after result) (sym (passage-is store z))
-        (done-by entering store (block_alone symbols source number (z ∷ []) turns) (block-plain z) after result (loop-ends symbols source form number head block z turns is stays));
+        (done-by entering store (block_alone symbols source number (z ∷ []) turns) (block-plain z) after result (loop-ends symbols source form number head block z turns is finishes));
   }
 
   plainly-by : IsPlainly (loop_parts symbols source turns number)
@@ -173,7 +172,7 @@ module _ (symbols : List Symbol) (source : Source) (turns number : ℕ) (head : 
 
 -- A loop of the program at its number.
 pub visitable : (symbols : List Symbol) (source : Source) (turns number : ℕ) (head : Line) (block : Items) → is_built symbols source ≡ true → nth_loop number source.body ≡ Some (head, block)
-    → IsVisitable (loop_parts symbols source turns number) symbols head.line head.says block
+    → IsVisitable (loop_parts symbols source turns number) symbols turns head.line head.says block
 visitable symbols source turns number head block form is = record {
   names = names-here symbols source turns number head block form (sym is);
   built = loop-built symbols source form number head block (sym is);

@@ -51,7 +51,7 @@ pub record IsOneSpan (spans : List Span) : Type 0 where
   pub is : spans ≡ span ∷ []
   pub step : span.step ≡ pos 1
 
-module _ {parts : Loop} {symbols : List Symbol} {line : ℕ} {head : Statement} {block : Items} (loop : IsVisitable parts symbols line head block) (turns : ℕ) (before : Store) where
+module _ {parts : Loop} {symbols : List Symbol} {given line : ℕ} {head : Statement} {block : Items} (loop : IsVisitable parts symbols given line head block) (turns : ℕ) (before : Store) where
   abbrev limits-reached : Reached Event Failure (List Span × ℕ)
   limits-reached = (over before (parts.form.header turns)).reached
 

@@ -9,7 +9,6 @@ use Rattle.dc_code.specs.Troubles.{Trouble, ended, Computing}
 use Rattle.dc_plain.specs.Views.{View, store_with}
 use Rattle.dc_tree.specs.declared.program.Program.{Program}
 use Rattle.dc_tree.specs.declared.symbols.Symbol.{Symbol}
-use Rattle.dc_tree.specs.Blocks as blocks
 use Rattle.dc_tree.specs.Blocks.{Source, source_of}
 use Rattle.dc_form.specs.BuiltPrograms.{is_built}
 use Rattle.dc_walk.specs.declared.alone_out.AloneOut.{AloneOut}

@@ -8,7 +8,6 @@ use Rattle.dc_code.specs.declared.verdict.Verdict as answers
 use Rattle.dc_code.specs.Loops.{Passage, Loop, alone, Ordered, order, closed}
 use Rattle.dc_code.specs.Troubles.{ended}
 use Rattle.dc_code.specs.Verdicts.{Verdict, go_on, in_iteration, race, bad_iteration, verdict, seen}
-use Rattle.dc_form.specs.BuiltPrograms.{is_built_block}
 use Rattle.dc_tree.specs.Blocks.{Items, items}
 use Rattle.dc_tree.specs.Entities.{Scope}
 use Rattle.dc_entities.specs.Found.{IsNamed}
@@ -20,11 +19,11 @@ use Rattle.dc_meaning.specs.declared.stop.Stop.{Stop}
 use Rattle.dc_walk.specs.declared.task.Task.{Task}
 use Rattle.dc_walk.specs.declared.judge.Bad as code
 use Rattle.dc_walk.specs.declared.judge.Told.{Told}
-use Rattle.dc_meaning.specs.Actions as actions
 use Rattle.dc_walk.specs.Alone.{trouble_of}
 use Rattle.dc_meaning.specs.Execution.{exec_all}
-use Rattle.dc_meaning.specs.Walking.{Stays}
-use Rattle.dc_meaning.specs.WalkScope.{index_names, all_spared}
+use Rattle.dc_meaning.specs.WalkScope.{index_names}
+use Rattle.dc_walk.specs.Flows.{Finishes}
+use Rattle.dc_walk.specs.Walked.{is_walked_block}
 
 -- ---- one iteration
 
@@ -43,11 +42,11 @@ IsDoneBy passage view (Err Stop.NoMemory) = Unit
 abbrev pub fresh : Store → View
 fresh store = record { store = store; entries = [] }
 
--- What the walker does for a block in a scope is an iteration of the loop.
-pub record IsRunBy (parts : Loop) (scope : Scope) (block : Items) : Type 0 where
+-- What the walker does for a block in a scope, given so many turns, is an iteration of the loop.
+pub record IsRunBy (parts : Loop) (turns : ℕ) (scope : Scope) (block : Items) : Type 0 where
   pub runs
       : (z : ℤ) (store : Store) (after : View) (result : Result (Unit {0}) Stop)
-      → ((number : ℕ) → Stays (λ done. actions.on) ((Some z ∷ []) ∷ []) (fresh store) (λ call. exec_all scope call number block) after result)
+      → ((number : ℕ) → Finishes ((Some z ∷ []) ∷ []) turns (fresh store) (λ call. exec_all scope call number block) after result)
       → IsDoneBy (parts.block store [] (z ∷ [])) after result
 
 -- All variables of the loop have unspecified locality, and its iterations are told by their entries.
@@ -60,9 +59,8 @@ pub record IsPlainly (parts : Loop) : Type 0 where
 -- A loop that the judge can run.
 pub record IsTask (parts : Loop) (task : Task) : Type 0 where
   pub named : IsNamed task.standing task.numbering.now
-  pub built : IsTrue (is_built_block (items task.body.now))
-  pub spared : IsTrue (all_spared (index_names task.standing) (items task.body.now))
-  pub run : IsRunBy parts (scope_at (standing_of task.standing)) (items task.body.now)
+  pub walked : IsTrue (is_walked_block (scope_at (standing_of task.standing)) (index_names task.standing) (items task.body.now))
+  pub run : IsRunBy parts task.turns (scope_at (standing_of task.standing)) (items task.body.now)
   pub plainly : IsPlainly parts
 
 -- How an iteration ended, and the marks with what it did.

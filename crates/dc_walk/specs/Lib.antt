@@ -1,7 +1,12 @@
 pub mod Alone
+pub mod Arms
+pub mod Counting
+pub mod Flows
 pub mod Judging
 pub mod Looped
 pub mod Pairing
 pub mod PlainVerdicts
+pub mod Rounds
 pub mod Telling
 pub mod Visiting
+pub mod Walked

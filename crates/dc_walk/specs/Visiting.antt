@@ -50,12 +50,12 @@ pub record HeadsSo (line : ℕ) (store : Store) (run : Run Event Failure (List S
 -- ---- what is asked of a loop
 
 -- A loop that is run today: its header gives the values of its index or comes to a fault, its variables have
--- unspecified locality, and what the walker does for its block is an iteration.
-pub record IsVisitable (parts : Loop) (symbols : List Symbol) (line : ℕ) (head : Statement) (block : Items) : Type 0 where
+-- unspecified locality, and what the walker does for its block, given so many turns, is an iteration.
+pub record IsVisitable (parts : Loop) (symbols : List Symbol) (turns line : ℕ) (head : Statement) (block : Items) : Type 0 where
   pub names : IsTrue (are_built_symbols symbols)
   pub built : IsTrue (is_built_loop (main_scope symbols) head block)
-  pub run : IsRunBy parts (index_scope symbols (index_name head)) block
-  pub heads : (store : Store) (turns : ℕ) → HeadsSo line store (over store (parts.form.header turns)) (over store (header_of parts.form turns)).reached
+  pub run : IsRunBy parts turns (index_scope symbols (index_name head)) block
+  pub heads : (store : Store) (left : ℕ) → HeadsSo line store (over store (parts.form.header left)) (over store (header_of parts.form left)).reached
   pub plainly : IsPlainly parts
 
 -- The loop of a number in a program, as the main program reaches it.

@@ -6,12 +6,11 @@ ghost use Rattle.dc_tree.specs.Blocks.{items, source_of};
 ghost use Rattle.dc_form.specs.BuiltPrograms.{are_built_symbols, is_built, is_built_loop};
 ghost use Rattle.dc_tree.specs.Entities.{main_scope};
 ghost use Rattle.dc_tree.specs.Statements.{statement};
-ghost use Rattle.dc_meaning.specs.Actions as actions;
 ghost use Rattle.dc_walk.specs.Alone.{IsAsked, Tells, iteration_alone, block_alone, Ends};
 ghost use Rattle.dc_meaning.specs.Looping.{index_name};
 ghost use Rattle.dc_meaning.specs.Execution.{exec_all};
+ghost use Rattle.dc_walk.specs.Flows.{Finishes};
 ghost use Rattle.dc_walk.specs.Telling.{IsTold};
-ghost use Rattle.dc_meaning.specs.Walking.{Stays};
 ghost use Rattle.dc_meaning.specs.WalkScope.{index_scope};
 
 use crate::alone_out::AloneOut;
@@ -32,13 +31,16 @@ fn perform_one<'a>(
     head: &'a Stmt,
     body: &'a Block,
     value: i64,
+    turns: u64,
     ledger: &mut Ledger,
 ) -> Result<(), Stop>
     requires symbols { IsTrue (are_built_symbols symbols.now) }
     requires numbers { numbering.now ≡ numbers_of symbols.now }
-    requires built { IsTrue (is_built_loop (main_scope symbols.now) (statement head.now) (items body.now)) }
-    ensures { (number : ℕ) → Stays (λ done. actions.on) ((Some value ∷ []) ∷ []) ledger.old
-        (λ call. exec_all (index_scope symbols.now (index_name (statement head.now))) call number (items body.now))
+    requires built { IsTrue (is_built_loop (main_scope symbols.now) (statement head.now)
+        (items body.now)) }
+    ensures { (number : ℕ) → Finishes ((Some value ∷ []) ∷ []) turns ledger.old
+        (λ call. exec_all (index_scope symbols.now (index_name (statement head.now))) call number
+        (items body.now))
         ledger.new result }
 {
     let index = first_index(head);
@@ -48,6 +50,7 @@ fn perform_one<'a>(
         standing: block_standing(symbols, indexes.as_slice()),
         numbering,
         body,
+        turns,
     };
     perform_iteration(alloc, task, value, ledger)
 }
@@ -58,11 +61,13 @@ fn perform_loop(
     symbols: &Symbols,
     construct: u32,
     value: i64,
+    turns: u64,
     ledger: &mut Ledger,
 ) -> Result<(), Stop>
     requires { IsTrue (is_built symbols.now (source_of program.now)) }
-    ensures { (turns : ℕ) → Ends ledger.old
-        (block_alone symbols.now (source_of program.now) construct (value ∷ []) turns) ledger.new result }
+    ensures { Ends ledger.old
+        (block_alone symbols.now (source_of program.now) construct (value ∷ []) turns)
+        ledger.new result }
 {
     let numbering = Numbering::new(alloc, symbols)?;
     match nth_loop(program.body.nodes.as_slice(), construct) {
@@ -73,6 +78,7 @@ fn perform_loop(
             &found.head.stmt,
             found.body,
             value,
+            turns,
             ledger,
         ),
         None => Ok(()),
@@ -105,7 +111,7 @@ fn only(combination: &[i64]) -> i64
     combination[0]
 }
 
-/// Takes an iteration of a loop alone, over a store of these states.
+/// Takes an iteration of a loop alone, over a store of these states, with so many turns.
 ///
 /// `construct` numbers the loops in the order of the text, from 0, `combination` has the value of
 /// the index, and `opening` the states of all elements in store order.
@@ -119,10 +125,19 @@ pub fn alone(
     turns: u64,
 ) -> Result<AloneOut, NoMemory>
     requires { IsAsked program.now symbols.now combination.now }
-    ensures { IfOk result (λ out. Tells (iteration_alone program.now symbols.now construct combination.now opening.now turns) out) }
+    ensures { IfOk result (Tells (iteration_alone program.now symbols.now construct
+        combination.now opening.now turns)) }
 {
     let value = only(combination);
     let mut ledger = Ledger::new(alloc, symbols, opening)?;
-    let ended = perform_loop(alloc, program, symbols, construct, value, &mut ledger);
+    let ended = perform_loop(
+        alloc,
+        program,
+        symbols,
+        construct,
+        value,
+        turns,
+        &mut ledger,
+    );
     told(alloc, &ledger, ended)
 }

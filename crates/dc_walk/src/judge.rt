@@ -44,7 +44,8 @@ fn iterate(
 ) -> Result<Option<(Why, u32)>, NoMemory>
     ghost parts: { Loop }
     requires { IsTask parts task }
-    ensures { IfOk result (λ met. IsDone (parts.block (ledger.old).store [] (combination value)) ledger.new met) }
+    ensures { IfOk result (λ met.
+        IsDone (parts.block (ledger.old).store [] (combination value)) ledger.new met) }
 {
     ledger.forget_accesses();
     match perform_iteration(alloc, task, value, ledger) {
@@ -54,7 +55,8 @@ fn iterate(
     }
 }
 
-/// Runs one iteration alone over a copy of the opening ledger, marks what it does, and takes it back.
+/// Runs one iteration alone over a copy of the opening ledger, marks what it does, and takes it
+/// back.
 fn mark_one(
     alloc: Global,
     task: Task<'_>,
@@ -67,7 +69,8 @@ fn mark_one(
     ghost parts: { Loop }
     requires task { IsTask parts task }
     requires copy { (ledger.old).store ≡ (opening.now).store }
-    ensures one { IfOk result (λ met. IsOne (alone parts (opening.now).store (combination value)) iteration (marks_of rows.old.items) (marks_of rows.new.items) met) }
+    ensures one { IfOk result (λ met. IsOne (alone parts (opening.now).store (combination value))
+        iteration (marks_of rows.old.items) (marks_of rows.new.items) met) }
     ensures back { IfOk result (λ met. (ledger.new).store ≡ (opening.now).store) }
 {
     let met = iterate(alloc, task, ledger, value)?;
@@ -87,7 +90,8 @@ pub(crate) fn mark_alone(
     ghost parts: { Loop }
     requires task { IsTask parts task }
     requires few { length active.now ≤ 4194304 }
-    ensures { IfOk result (λ bad. IsMarked parts (opening.now).store active.now (marks_of rows.old.items) (marks_of rows.new.items) bad) }
+    ensures { IfOk result (λ bad. IsMarked parts (opening.now).store active.now
+        (marks_of rows.old.items) (marks_of rows.new.items) bad) }
 {
     let mut ledger = opening.fresh(alloc)?;
     let mut iteration = 0;
@@ -123,7 +127,8 @@ fn replay(
 ) -> Result<Option<Race>, NoMemory>
     ghost parts: { Loop }
     requires { IsTask parts task }
-    ensures { IfOk result (λ race. race ≡ race_in plain named.first named.second (order parts [] (opening.now).store (combination first ∷ combination second ∷ [])).runs) }
+    ensures { IfOk result (λ race. race ≡ race_in plain named.first named.second (order parts []
+        (opening.now).store (combination first ∷ combination second ∷ [])).runs) }
 {
     let mut ledger = opening.fresh(alloc)?;
     if iterate(alloc, task, &mut ledger, first)?.is_some() {
@@ -134,8 +139,8 @@ fn replay(
     Ok(race_by(named.first, named.second, before.as_slice(), ledger.notes()))
 }
 
-/// Runs the iterations in this order over one store, up to the first that doesn't end well, and marks
-/// what each does.
+/// Runs the iterations in this order over one store, up to the first that doesn't end well, and
+/// marks what each does.
 fn run_in_order(
     alloc: Global,
     task: Task<'_>,
@@ -146,7 +151,9 @@ fn run_in_order(
     ghost parts: { Loop }
     requires task { IsTask parts task }
     requires few { length active.now ≤ 4194304 }
-    ensures { OnOk result (IsOrdered (order parts [] (ledger.old).store (map combination active.now)) (marks_of rows.old.items) (ledger.new).store (marks_of rows.new.items)) }
+    ensures { OnOk result (IsOrdered
+        (order parts [] (ledger.old).store (map combination active.now)) (marks_of rows.old.items)
+        (ledger.new).store (marks_of rows.new.items)) }
 {
     let mut iteration = 0;
     for value in active {
@@ -169,7 +176,8 @@ fn single(alloc: Global, value: i64) -> Result<DcList<i64>, NoMemory>
 }
 
 fn bad_verdict(alloc: Global, active: &[i64], bad: Bad) -> Result<Verdict, NoMemory>
-    ensures { IfOk result (λ said. (z : ℤ) → slice_get active.now bad.iteration ≡ Some z → seen said ≡ in_iteration (ended bad.why bad.line []) (combination z)) }
+    ensures { IfOk result (λ said. (z : ℤ) → slice_get active.now bad.iteration ≡ Some z
+        → seen said ≡ in_iteration (ended bad.why bad.line []) (combination z)) }
 {
     let Some(value) = active.get(bad.iteration as usize) else {
         return Ok(Verdict::GoOn);
@@ -198,7 +206,8 @@ fn race_of_pair(
 ) -> Result<Option<Told>, NoMemory>
     ghost parts: { Loop }
     requires { IsTask parts task }
-    ensures { IfOk result (λ told. option_map told_of told ≡ between_plain parts (opening.now).store (map combination active.now) (named.first, named.second)) }
+    ensures { IfOk result (λ told. option_map told_of told ≡ between_plain parts
+        (opening.now).store (map combination active.now) (named.first, named.second)) }
 {
     let Some(first) = value_of(active, named.first) else {
         return Ok(None);
@@ -239,8 +248,10 @@ pub(crate) fn race_among(
     ghost parts: { Loop }
     requires task { IsTask parts task }
     requires fit { FitStore rows.now }
-    requires marks { marks_of rows.now ≡ marked_runs 0 (runs_of parts (opening.now).store active.now) (blank_marks (opening.now).store) }
-    ensures { IfOk result (λ told. option_map told_of told ≡ race_among parts (opening.now).store (map combination active.now) (runs_of parts (opening.now).store active.now)) }
+    requires marks { marks_of rows.now ≡ marked_runs 0
+        (runs_of parts (opening.now).store active.now) (blank_marks (opening.now).store) }
+    ensures { IfOk result (λ told. option_map told_of told ≡ race_among parts (opening.now).store
+        (map combination active.now) (runs_of parts (opening.now).store active.now)) }
 {
     match first_named(rows) {
         Some(named) => race_of_pair(alloc, task, opening, active, named),
@@ -258,7 +269,8 @@ pub(crate) fn go_on(
     ghost parts: { Loop }
     requires task { IsTask parts task }
     requires few { length active.now ≤ 4194304 }
-    ensures { OnOk result ((ledger.new).store ≡ closed parts (order parts [] (ledger.old).store (map combination active.now))) }
+    ensures { OnOk result ((ledger.new).store
+        ≡ closed parts (order parts [] (ledger.old).store (map combination active.now))) }
 {
     let mut rows = ledger.blank_marks(alloc)?;
     let mut after = ledger.fresh(alloc)?;
@@ -280,9 +292,11 @@ fn judge_marked(
     requires task { IsTask parts task }
     requires few { length active.now ≤ 4194304 }
     requires fit { FitStore rows.now }
-    requires marks { marks_of rows.now ≡ marked_runs 0 (runs_of parts (ledger.old).store active.now) (blank_marks (ledger.old).store) }
+    requires marks { marks_of rows.now ≡ marked_runs 0
+        (runs_of parts (ledger.old).store active.now) (blank_marks (ledger.old).store) }
     requires well { bad_of parts (ledger.old).store active.now ≡ None }
-    ensures { IfOk result (λ said. IsJudged parts (ledger.old).store active.now (ledger.new).store said) }
+    ensures { IfOk result
+        (IsJudged parts (ledger.old).store active.now (ledger.new).store) }
 {
     match race_among(alloc, task, ledger, active, rows)? {
         Some(told) => {
@@ -296,8 +310,8 @@ fn judge_marked(
     }
 }
 
-/// Judges a loop with these iterations over the ledger. They are left as the loop leaves them where it
-/// goes on, and else as they were.
+/// Judges a loop with these iterations over the ledger. The elements are left as the loop leaves them
+/// where it goes on, and else as they were.
 pub(crate) fn judge(
     alloc: Global,
     task: Task<'_>,
@@ -307,7 +321,8 @@ pub(crate) fn judge(
     ghost parts: { Loop }
     requires task { IsTask parts task }
     requires few { length active.now ≤ 4194304 }
-    ensures { IfOk result (λ said. IsJudged parts (ledger.old).store active.now (ledger.new).store said) }
+    ensures { IfOk result
+        (IsJudged parts (ledger.old).store active.now (ledger.new).store) }
 {
     let mut rows = ledger.blank_marks(alloc)?;
     match mark_alone(alloc, task, ledger, active, &mut rows)? {

@@ -3,13 +3,19 @@
 
 mod alone_out;
 mod block;
+mod cases;
+mod counting;
+mod flow;
 mod header;
 mod iteration;
 mod judge;
+mod lines;
 mod looped;
 mod loops;
 mod plain;
 mod task;
+mod testing;
+mod turns;
 mod visits;
 
 pub use alone_out::AloneOut;

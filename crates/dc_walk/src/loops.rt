@@ -4,13 +4,12 @@ ghost use Rattle.std.specs.Prelude.{◌≡◌, ℕ, ◌≤◌, IsTrue, Some, [],
 ghost use Rattle.dc_entities.specs.Found.{IsNamed};
 ghost use Rattle.dc_sorts.specs.Standing.{standing_of, scope_at};
 ghost use Rattle.dc_tree.specs.Blocks.{item, items, items_from};
-ghost use Rattle.dc_form.specs.BuiltPrograms.{is_built_block};
-ghost use Rattle.dc_meaning.specs.Actions as actions;
 ghost use Rattle.dc_meaning.specs.Looping.{nth_loop};
 ghost use Rattle.dc_meaning.specs.Execution.{exec_all};
 ghost use Rattle.dc_walk.specs.Looped.{looped_of};
-ghost use Rattle.dc_meaning.specs.Walking.{Stays};
-ghost use Rattle.dc_meaning.specs.WalkScope.{index_names, all_spared};
+ghost use Rattle.dc_meaning.specs.WalkScope.{index_names};
+ghost use Rattle.dc_walk.specs.Flows.{Finishes};
+ghost use Rattle.dc_walk.specs.Walked.{is_walked_block};
 
 use crate::block::perform_all;
 use crate::looped::Looped;
@@ -44,10 +43,11 @@ pub(crate) fn perform_iteration(
     ledger: &mut Ledger,
 ) -> Result<(), Stop>
     requires named { IsNamed task.standing task.numbering.now }
-    requires built { IsTrue (is_built_block (items task.body.now)) }
-    requires spared { IsTrue (all_spared (index_names task.standing) (items task.body.now)) }
-    ensures { (number : ℕ) → Stays (λ done. actions.on) ((Some value ∷ []) ∷ []) ledger.old
-        (λ call. exec_all (scope_at (standing_of task.entry.standing)) call number (items task.entry.body.now))
+    requires walked { IsTrue (is_walked_block (scope_at (standing_of task.standing))
+        (index_names task.standing) (items task.body.now)) }
+    ensures { (number : ℕ) → Finishes ((Some value ∷ []) ∷ []) task.entry.turns ledger.old
+        (λ call. exec_all (scope_at (standing_of task.entry.standing)) call number
+        (items task.entry.body.now))
         ledger.new result }
 {
     let walk = Walk {
@@ -55,5 +55,7 @@ pub(crate) fn perform_iteration(
         numbering: task.numbering,
         values: &[value],
     };
-    perform_all(alloc, &walk, ledger, task.body.nodes.as_slice())
+    let mut turns = task.turns;
+    perform_all(alloc, &walk, ledger, &mut turns, task.body.nodes.as_slice())?;
+    Ok(())
 }

@@ -30,7 +30,7 @@ use std::alloc::Global;
 pub enum PlainVerdict {
     /// It goes on, and leaves all elements in these states, in store order.
     GoOn { closing: DcList<Option<i64>> },
-    /// The least iteration that, alone, doesn't end well, counted from 0, and the line where it ends.
+    /// The least iteration that, alone, doesn't end well, counted from 0, and the line of its end.
     Bad { iteration: u32, why: Why, line: u32 },
     /// Two iterations break the restriction of an element.
     Race(Race),
@@ -48,7 +48,8 @@ fn told_by_marks(
     requires task { IsTask parts task }
     requires few { length active.now ≤ 4194304 }
     requires fit { FitStore rows.now }
-    requires marks { marks_of rows.now ≡ marked_runs 0 (runs_of parts (ledger.old).store active.now) (blank_marks (ledger.old).store) }
+    requires marks { marks_of rows.now ≡ marked_runs 0
+        (runs_of parts (ledger.old).store active.now) (blank_marks (ledger.old).store) }
     requires well { bad_of parts (ledger.old).store active.now ≡ None }
     ensures { IfOk result (λ said. IsSaid parts (ledger.old).store active.now said) }
 {
@@ -97,16 +98,18 @@ fn told_of_loop(
     }
 }
 
-/// Whether a program that can be run today has a loop of this number, counted from 0 in the order of the
-/// text.
+/// Whether a program that can be run today has a loop of this number, counted from 0 in the order of
+/// the text.
 pub fn has_loop(program: &Program, construct: u32) -> bool
     ensures { (symbols : List Symbol) (turns : ℕ) → is_built symbols (source_of program.now) ≡ true
-        → result ≡ is_some (slice_get (program_loops symbols (source_of program.now) turns) construct) }
+        → result ≡ is_some (slice_get (program_loops symbols (source_of program.now) turns)
+        construct) }
 {
     nth_loop(program.body.nodes.as_slice(), construct).is_some()
 }
 
-/// Judges a loop of a program over a store of these states, by what each of its iterations does alone.
+/// Judges a loop of a program over a store of these states, by what each of its iterations does alone
+/// with so many turns.
 ///
 /// `construct` numbers the loops in the order of the text, from 0; `width` is the number of indexes,
 /// which is 1; `active` has the value of the index in each iteration, up to 4,194,304 of them; and
@@ -122,7 +125,9 @@ pub fn plain_verdict<'a>(
     turns: u64,
 ) -> Result<PlainVerdict, NoMemory>
     requires { IsJudgeable program.now symbols.now construct width active.now }
-    ensures { IfOk result (λ said. IsSaid (loop_parts symbols.now (source_of program.now) turns construct) (store_with symbols.now opening.now) active.now said) }
+    ensures { IfOk result (IsSaid
+        (loop_parts symbols.now (source_of program.now) turns construct)
+        (store_with symbols.now opening.now) active.now) }
 {
     let numbering = Numbering::new(alloc, symbols)?;
     let mut ledger = Ledger::new(alloc, symbols, opening)?;
@@ -135,6 +140,7 @@ pub fn plain_verdict<'a>(
                 standing: block_standing(symbols, indexes.as_slice()),
                 numbering: &numbering,
                 body: found.body,
+                turns,
             };
             let asked = Asked {
                 program,

@@ -46,7 +46,8 @@ fn visit_between(
 }
 
 /// Judges a loop whose header comes to these limits, and leaves the elements as it does: with the
-/// closing values where it goes on, and else unchanged. `head` is its header, and `body` its block.
+/// closing values where it goes on, and else unchanged. `head` is its header, `body` its block, and
+/// each iteration has so many turns.
 pub fn visit<'a>(
     alloc: Global,
     symbols: &'a Symbols,
@@ -54,10 +55,11 @@ pub fn visit<'a>(
     head: &'a Lined,
     body: &'a Block,
     limits: Limits,
+    turns: u64,
     ledger: &mut Ledger,
 ) -> Result<Verdict, NoMemory>
     ghost parts: { Loop }
-    requires visitable { IsVisitable parts symbols.now (head.now).line
+    requires visitable { IsVisitable parts symbols.now turns (head.now).line
         (statement (head.now).stmt) (items body.now) }
     requires numbers { numbering.now ≡ numbers_of symbols.now }
     ensures { IfOk result (λ said. IsVisitBetween parts (head.now).line (span_with limits)
@@ -71,6 +73,7 @@ pub fn visit<'a>(
         standing: block_standing(symbols, indexes.as_slice()),
         numbering,
         body,
+        turns,
     };
     let said = visit_between(alloc, task, head.line, limits, ledger)?;
     Ok(said)

@@ -8,9 +8,9 @@ use Rattle.dc_run.proofs.program.run_lowered.Goals as goal
 pub run_code-requires : goal.run_code-requires
 run_code-requires g c =
     let symbols = c.args.symbols.now in
-    let task : Task = record { symbols = c.args.symbols; numbering = record { ref_ptr = _; now = c.in_ok-numbering.numbering }; code = c.args.code; nodes = c.as_slice-nodes.result; loops = c.as_slice.result } in
+    let task : Task = record { symbols = c.args.symbols; numbering = record { ref_ptr = _; now = c.in_ok-numbering.numbering }; code = c.args.code; nodes = c.as_slice-nodes.result; loops = c.as_slice.result; turns = c.args.turns } in
     let body = ap (λ (s : Source). s.body) c.requires.0 ∙ block-items c.args.program.now.body c.as_slice-nodes.result.now c.as_slice-nodes.ensures in (
-      task-is symbols g.source c.args.turns task c.requires.1.0 body refl c.requires.1.1.0 c.in_ok-numbering.ensures (c.as_slice.ensures ∙ c.in_ok-loops.ensures) c.requires.1.1.1,
+      task-is symbols g.source c.args.turns task c.requires.1.0 body refl c.requires.1.1.0 c.in_ok-numbering.ensures (c.as_slice.ensures ∙ c.in_ok-loops.ensures) c.requires.1.1.1 refl,
       begins-with symbols symbols g.source c.args.code.now c.in_ok-standing.standing c.requires.1.0 refl c.requires.1.1.0 c.in_ok-standing.ensures,
     )
 

@@ -20,7 +20,7 @@ returns-clause-attends g c = λ line there.
     let all = items_from (map item c.args.task.nodes.now) in
     let reachable = c.requires.0.reachable.each found.number (line_of found.head.now) (items found.body.now) (ap (λ n. nth_loop n all) c.find_loop-found.ensures.number ∙ c.find_loop-found.ensures.found) in
     let judged = c.in_ok-judged.judged in
-    attended-behind g.forms c.args.task.symbols.now c.args.task.code.now found.number (line_of found.head.now) (items found.body.now) c.args.at c.args.turns judged.turns line c.args.standing.now c.judge_loop.new.variables judged.said c.step_behind.result
+    attended-behind g.forms c.args.task.symbols.now c.args.task.code.now found.number (line_of found.head.now) (items found.body.now) c.args.task.turns c.args.at c.args.turns judged.turns line c.args.standing.now c.judge_loop.new.variables judged.said c.step_behind.result
     reachable c.requires.1.1.1 c.in_ok-judged.ensures.said (c.step_behind.ensures ∙ (λ i. step_behind c.args.at (c.min.ensures i) (c.stopped.ensures i)))
     (there ∙ ap (λ n. Some (record { line = line; what = What.Enter n })) (sym c.find_loop-found.ensures.number))
 
@@ -30,5 +30,5 @@ returns-clause-usual g c =
     let all = items_from (map item c.args.task.nodes.now) in
     let reachable = c.requires.0.reachable.each found.number (line_of found.head.now) (items found.body.now) (ap (λ n. nth_loop n all) c.find_loop-found.ensures.number ∙ c.find_loop-found.ensures.found) in
     let judged = c.in_ok-judged.judged in
-    usual-behind c.args.task.symbols.now c.args.task.code.now _ found.number (line_of found.head.now) (items found.body.now) c.args.turns judged.turns c.args.standing.now c.judge_loop.new.variables judged.said reachable
+    usual-behind c.args.task.symbols.now c.args.task.code.now _ found.number (line_of found.head.now) (items found.body.now) c.args.task.turns c.args.turns judged.turns c.args.standing.now c.judge_loop.new.variables judged.said reachable
     c.in_ok-judged.ensures.shapes c.in_ok-judged.ensures.said c.requires.1.1.1

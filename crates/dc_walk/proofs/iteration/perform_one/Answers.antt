@@ -9,21 +9,16 @@ use Rattle.dc_tree.specs.Statements.{statement, index_ranging}
 use Rattle.dc_walk.specs.declared.task.Task.{Task}
 use Rattle.dc_meaning.specs.Execution.{exec_all}
 use Rattle.dc_meaning.specs.WalkScope.{index_scope, kind_of_index}
-use Rattle.dc_walk.proofs.Tasks.{index-named, block-built, block-spared, IsTaskOf, task-scope, task-spared, stays-in}
-use Rattle.dc_meaning.proofs.Walking.{stays-as}
+use Rattle.dc_walk.proofs.Tasks.{index-named, block-walked, IsTaskOf, task-scope, task-walked, finishes-in, finishes-as}
 use Rattle.dc_walk.proofs.iteration.perform_one.Goals as goal
 
-pub perform_iteration-requires-clause-built : goal.perform_iteration-requires-clause-built
-perform_iteration-requires-clause-built c =
-    block-built c.args.symbols.now (statement c.args.head.now) (items c.args.body.now) c.requires.built (index_ranging c.first_index-index.result.now) c.first_index-index.ensures
-
-pub perform_iteration-requires-clause-spared : goal.perform_iteration-requires-clause-spared
-perform_iteration-requires-clause-spared c =
+pub perform_iteration-requires-clause-walked : goal.perform_iteration-requires-clause-walked
+perform_iteration-requires-clause-walked c =
     let symbols = c.args.symbols.now in
     let head = statement c.args.head.now in
     let block = items c.args.body.now in
     let ranging = index_ranging c.first_index-index.result.now in
-    let task : Task = record { standing = c.block_standing.result; numbering = c.args.numbering; body = c.args.body } in
+    let task : Task = record { standing = c.block_standing.result; numbering = c.args.numbering; body = c.args.body; turns = c.args.turns } in
     let text : c.as_bytes.result.now ≡ ranging.name = search rules in
     let kind : c.index_kind-kind.result ≡ kind_of_index symbols ranging.name = c.index_kind-kind.ensures ∙ ap (kind_of_index symbols) text in
     let made : c.as_slice.result.now ≡ record { name = ranging.name; kind = c.index_kind-kind.result } ∷ [] = search rules in
@@ -34,7 +29,7 @@ perform_iteration-requires-clause-spared c =
       numbers = c.requires.numbers;
       body = refl;
     } in
-    task-spared task symbols ranging block of (block-spared symbols head block c.requires.built ranging c.first_index-index.ensures)
+    task-walked task symbols ranging block of (block-walked symbols head block c.requires.built ranging c.first_index-index.ensures)
 
 pub returns : goal.returns
 returns c = λ number.
@@ -42,7 +37,7 @@ returns c = λ number.
     let head = statement c.args.head.now in
     let block = items c.args.body.now in
     let ranging = index_ranging c.first_index-index.result.now in
-    let task : Task = record { standing = c.block_standing.result; numbering = c.args.numbering; body = c.args.body } in
+    let task : Task = record { standing = c.block_standing.result; numbering = c.args.numbering; body = c.args.body; turns = c.args.turns } in
     let text : c.as_bytes.result.now ≡ ranging.name = search rules in
     let kind : c.index_kind-kind.result ≡ kind_of_index symbols ranging.name = c.index_kind-kind.ensures ∙ ap (kind_of_index symbols) text in
     let made : c.as_slice.result.now ≡ record { name = ranging.name; kind = c.index_kind-kind.result } ∷ [] = search rules in
@@ -55,4 +50,4 @@ returns c = λ number.
     } in
     let same = ap (index_scope symbols) (index-named symbols head block c.requires.built ranging c.first_index-index.ensures) ∙ sym (task-scope task symbols ranging block of) in
     let told = to_z-of_z w64 c.args.value (search rules) in
-    stays-in (ap (λ (z : ℤ). (Some z ∷ []) ∷ []) told) (stays-as (λ call. ap (λ (s : Scope). exec_all s call number block) same) (c.perform_iteration.ensures number))
+    finishes-in (ap (λ (z : ℤ). (Some z ∷ []) ∷ []) told) (finishes-as (λ call. ap (λ (s : Scope). exec_all s call number block) same) (c.perform_iteration.ensures number))

@@ -51,14 +51,14 @@ told_of_loop-requires c =
     let kind : c.index_kind-kind.result ≡ kind_of_index symbols ranging.name = c.index_kind-kind.ensures ∙ ap (kind_of_index symbols) text in
     let made : c.as_slice-in-Some.result.now ≡ record { name = ranging.name; kind = c.index_kind-kind.result } ∷ [] = search rules in (
       task-in _ source c.args.turns c.args.construct symbols c.block_standing.result.symbols.now c.block_standing.ensures.symbols
-          (task-is (loop_parts symbols source c.args.turns c.args.construct) symbols head.line head.says block ranging _ loop c.first_index-index.ensures
+          (task-is (loop_parts symbols source c.args.turns c.args.construct) symbols c.args.turns head.line head.says block ranging _ loop c.first_index-index.ensures
           (record {
             names = c.block_standing.ensures.symbols;
             unit = c.block_standing.ensures.unit;
             indexes = c.block_standing.ensures.indexes ∙ made ∙ ap (λ (k : Kind). record { name = ranging.name; kind = k } ∷ []) kind;
             numbers = c.in_ok-numbering.ensures;
             body = refl;
-          })),
+          }) refl),
       c.requires.few,
     )
 

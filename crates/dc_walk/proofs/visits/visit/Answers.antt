@@ -12,7 +12,7 @@ visit_between-requires g c =
     let symbols = c.args.symbols.now in
     let block = items c.args.body.now in
     let ranging = index_ranging c.first_index-index.result.now in
-    let task : Task = record { standing = c.block_standing.result; numbering = c.args.numbering; body = c.args.body } in
+    let task : Task = record { standing = c.block_standing.result; numbering = c.args.numbering; body = c.args.body; turns = c.args.turns } in
     let text : c.as_bytes.result.now ≡ ranging.name = search rules in
     let kind : c.index_kind-kind.result ≡ kind_of_index symbols ranging.name = c.index_kind-kind.ensures ∙ ap (kind_of_index symbols) text in
     let made : c.as_slice.result.now ≡ record { name = ranging.name; kind = c.index_kind-kind.result } ∷ [] = search rules in
@@ -23,4 +23,4 @@ visit_between-requires g c =
       numbers = c.requires.1;
       body = refl;
     } in
-    task-is g.parts symbols c.args.head.now.line (statement c.args.head.now.stmt) block ranging task c.requires.0 c.first_index-index.ensures of
+    task-is g.parts symbols c.args.turns c.args.head.now.line (statement c.args.head.now.stmt) block ranging task c.requires.0 c.first_index-index.ensures of refl
