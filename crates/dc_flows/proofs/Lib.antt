@@ -1,3 +1,4 @@
+pub mod Additions
 pub mod Arms
 pub mod FlowActions
 pub mod FlowArms
@@ -26,5 +27,8 @@ pub mod StandGrounds
 pub mod StandJoints
 pub mod StandJumps
 pub mod StandLoops
+pub mod StandParts
 pub mod StandScalars
 pub mod StandShapes
+pub mod StandTrails
+pub mod StandWholes

@@ -1,12 +1,9 @@
 -- The instructions of single statements are joined.
-use Rattle.std.proofs.Common.{◌≡◌, ◌<◌, ◌≤◌, ℕ, suc, ◌+◌, Bool, true, false, List, [], ◌∷◌, ◌++◌, length, map, Option, Some, None, refl, sym, ap, ◌∙◌, subst, arith}
-use Rattle.std.specs.Prelude.{slice_get}
+use Rattle.std.proofs.Common.{◌≡◌, ◌<◌, ◌≤◌, ℕ, ◌+◌, Bool, true, false, List, [], ◌∷◌, length, map, Option, Some, refl, sym, ap, subst, arith}
 use Rattle.std.proofs.lemmas.Bool.{false≢true}
 use Rattle.dc_int.specs.Sorts.{Sort, whole, logical}
 use Rattle.dc_code.specs.declared.instr.What.{What}
-use Rattle.dc_code.specs.declared.plan.Group.{Group}
 use Rattle.dc_code.specs.StackSorts.{a_truth}
-use Rattle.dc_code.specs.WellFormed.{main}
 use Rattle.dc_tree.specs.Entities.{Scope, entity}
 use Rattle.dc_tree.specs.Statements.{Name, Deed, assign, fill, call, cycle, exit, return, continue, stop, error_stop, print, read}
 use Rattle.dc_tree.specs.Syntax.{Tree}
@@ -18,16 +15,16 @@ use Rattle.dc_actions.specs.Typed.{item_of, item_is_typed, is_logical, deed_is_t
 use Rattle.dc_actions.specs.Printing.{printing_code, texts_of_items, give_items}
 use Rattle.std.specs.List.{list_all}
 use Rattle.dc_actions.proofs.Facts.{both-true}
-use Rattle.dc_actions.proofs.Straight.{can_stand, Ground, Runs, runs-step, runs-to}
+use Rattle.dc_actions.proofs.Straight.{Ground, Runs, runs-step, runs-to}
 use Rattle.dc_actions.proofs.RunsOfStatements.{assigned-runs, filling-runs}
 use Rattle.dc_actions.proofs.RunsOfValues.{value-runs}
 use Rattle.dc_actions.proofs.RunsOfDeeds.{printing-runs}
 use Rattle.dc_actions.proofs.Standing.{Stand, here-stands}
 use Rattle.dc_flows.specs.Flows.{Before, LoopAround, loop_named, jump_code, action_code}
-use Rattle.dc_flows.specs.FlowsLowered.{belongs_to_some, action_is_lowered, EndBehind}
+use Rattle.dc_flows.specs.FlowsLowered.{action_is_lowered, EndBehind}
 use Rattle.dc_flows.specs.FlowsTyped.{is_typed_test, writes_nothing}
 use Rattle.dc_flows.proofs.FlowActions.{ends-behind, length-jump}
-use Rattle.dc_flows.proofs.StandGrounds.{Suits, can-main, Rooms, IsAround, IsFound, found-around}
+use Rattle.dc_flows.proofs.StandGrounds.{Suits, can-main, Rooms, IsAround, found-around}
 use Rattle.dc_flows.proofs.StandJoints.{AreJoined, joined-runs}
 use Rattle.dc_flows.proofs.StandJumps.{jump-joined}
 

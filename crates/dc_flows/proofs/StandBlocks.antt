@@ -1,9 +1,8 @@
 -- The instructions of blocks are joined, by induction on statements, blocks and arms.
-use Rattle.std.proofs.Common.{◌≡◌, ◌≤◌, ℕ, suc, ◌+◌, Bool, true, false, ◌&&◌, List, [], ◌∷◌, ◌++◌, length, map, Option, Some, None, refl, sym, ap, ◌∙◌, subst, arith}
+use Rattle.std.proofs.Common.{◌≡◌, ◌≤◌, ℕ, ◌+◌, Bool, true, false, ◌&&◌, List, [], ◌∷◌, length, map, Option, Some, None, refl, sym, ap, subst, arith}
 use Rattle.std.proofs.lemmas.Bool.{false≢true}
 use Rattle.std.proofs.lemmas.List.{length-append}
 use Rattle.dc_int.specs.Sorts.{Sort}
-use Rattle.dc_code.specs.declared.instr.Instr.{Instr}
 use Rattle.dc_code.specs.declared.instr.What.{What}
 use Rattle.dc_code.specs.declared.plan.Group.{Group}
 use Rattle.dc_tree.specs.Blocks.{Line, Item, Items, Arms, plain, branch, select, loop, none, and_then, no_arms, arm}
@@ -12,16 +11,15 @@ use Rattle.dc_tree.specs.Statements.{Name, CaseRange, Statement, act, if_action}
 use Rattle.dc_tree.specs.Syntax.{Tree}
 use Rattle.dc_meaning.specs.Execution.{loops_in, loops_in_all, loops_in_arms}
 use Rattle.dc_actions.specs.Deeds.{lined}
-use Rattle.dc_actions.specs.Expressions.{value_code, is_usable}
-use Rattle.dc_actions.specs.Typed.{deed_is_typed}
+use Rattle.dc_actions.specs.Expressions.{value_code}
 use Rattle.dc_actions.proofs.Facts.{both-true}
 use Rattle.dc_actions.proofs.DeedLaws.{length-lined}
 use Rattle.dc_actions.proofs.RunsOfDeeds.{whats_of}
 use Rattle.dc_actions.proofs.Standing.{Stand, second-stand, here-stands}
 use Rattle.dc_actions.proofs.Straight.{Ground}
-use Rattle.dc_flows.specs.Flows.{Before, LoopAround, Otherwise, nothing_else, placed, keeping, numbered, tested, ranges_in, selected, selector_sort, selector_code, scalar_group, test_code, action_code, guarded_code, says_code, says_size, case_size, item_size, block_size, arms_size, cases_size, texts_of_says, texts_of_item, texts_of_block, texts_of_arms, texts_of_cases, groups_of_says, groups_of_item, groups_of_block, groups_of_arms, groups_of_cases, behind_case, behind_item, behind_block, case_code, item_code, block_code, arms_code, cases_code}
+use Rattle.dc_flows.specs.Flows.{Before, LoopAround, Otherwise, nothing_else, placed, keeping, numbered, tested, ranges_in, selected, selector_sort, selector_code, scalar_group, test_code, action_code, guarded_code, says_code, case_size, item_size, block_size, arms_size, cases_size, texts_of_says, texts_of_item, texts_of_block, texts_of_arms, texts_of_cases, groups_of_says, groups_of_item, groups_of_block, groups_of_arms, groups_of_cases, behind_case, behind_item, behind_block, case_code, item_code, block_code, arms_code, cases_code}
 use Rattle.dc_flows.specs.FlowsLowered.{EndBehind, is_usable_test, case_is_lowered, says_is_lowered, item_is_lowered, block_is_lowered, arms_are_lowered, cases_are_lowered}
-use Rattle.dc_flows.specs.FlowsTyped.{is_typed_test, says_is_typed, test_is_typed, selector_is_typed, case_is_typed, item_is_typed, block_is_typed, arms_are_typed, cases_are_typed, says_is_silent, item_is_silent, block_is_silent, arms_are_silent}
+use Rattle.dc_flows.specs.FlowsTyped.{says_is_typed, test_is_typed, selector_is_typed, case_is_typed, item_is_typed, block_is_typed, arms_are_typed, cases_are_typed, says_is_silent, item_is_silent, block_is_silent, arms_are_silent}
 use Rattle.dc_flows.proofs.FlowActions.{ends-sooner}
 use Rattle.dc_flows.proofs.FlowSizes.{says-length, selector-length, item-length, block-length, arms-length, cases-length}
 use Rattle.dc_flows.proofs.StandActions.{test-runs, action-joined}

@@ -1,5 +1,5 @@
 -- The tests of SELECT CASE leave a truth.
-use Rattle.std.proofs.Common.{◌≡◌, ℕ, zero, suc, Bool, true, false, ◌&&◌, List, [], ◌∷◌, ◌++◌, Option, Some, None, refl}
+use Rattle.std.proofs.Common.{◌≡◌, ℕ, zero, suc, true, false, List, [], ◌∷◌, ◌++◌, Option, Some, None, refl}
 use Rattle.std.specs.Prelude.{ℤ, pos, negsuc}
 use Rattle.std.specs.List.{list_all}
 use Rattle.dc_int.specs.declared.kind.Kind.{Kind}
@@ -12,7 +12,7 @@ use Rattle.dc_tree.specs.Entities.{Scope}
 use Rattle.dc_tree.specs.Statements.{CaseRange, only, from, up_to, between}
 use Rattle.dc_tree.specs.Syntax.{Tree}
 use Rattle.dc_tree.specs.Typing.{constant_value, sort_of}
-use Rattle.dc_actions.specs.Expressions.{value_code, is_usable}
+use Rattle.dc_actions.specs.Expressions.{value_code}
 use Rattle.dc_actions.specs.Typed.{item_of, is_same_type}
 use Rattle.dc_actions.proofs.Facts.{both-true}
 use Rattle.dc_actions.proofs.Straight.{Ground, Runs, runs-one, runs-both}

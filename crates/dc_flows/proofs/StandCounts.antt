@@ -1,11 +1,10 @@
 -- The sorts that the instructions of a counted DO leave, before its rounds, before each and behind each.
-use Rattle.std.proofs.Common.{◌≡◌, ℕ, zero, suc, ◌+◌, Bool, true, false, ◌&&◌, List, [], ◌∷◌, ◌++◌, length, Option, Some, None, refl, subst}
-use Rattle.std.specs.Prelude.{ℤ, pos}
+use Rattle.std.proofs.Common.{◌≡◌, ℕ, ◌+◌, true, List, [], ◌∷◌, ◌++◌, length, Option, Some, refl, subst}
+use Rattle.std.specs.Prelude.{pos}
 use Rattle.std.proofs.lemmas.Bool.{false≢true, eqb-true}
 use Rattle.dc_int.specs.declared.kind.Kind.{Kind}
 use Rattle.dc_int.specs.declared.operation.Op.{Op}
-use Rattle.dc_int.specs.Sorts.{Sort, whole, logical, kind_of}
-use Rattle.dc_int.specs.Store.{Bounds}
+use Rattle.dc_int.specs.Sorts.{whole, logical, kind_of}
 use Rattle.dc_code.specs.declared.instr.Relation.{Relation}
 use Rattle.dc_code.specs.declared.instr.What.{What}
 use Rattle.dc_code.specs.StackSorts as items
@@ -17,7 +16,7 @@ use Rattle.dc_tree.specs.Typing.{sort_of_entity}
 use Rattle.dc_actions.specs.Assigning.{takes_values}
 use Rattle.dc_actions.specs.Expressions.{value_code, entity_code, is_usable, is_number}
 use Rattle.dc_actions.specs.Limits.{step_is_usable, step_code}
-use Rattle.dc_actions.specs.Typed.{is_typed_number, step_is_typed, limits_are_typed}
+use Rattle.dc_actions.specs.Typed.{is_typed_number, limits_are_typed}
 use Rattle.dc_actions.proofs.Facts.{both-true}
 use Rattle.dc_actions.proofs.Straight.{Ground, Runs, runs-one, runs-both}
 use Rattle.dc_actions.proofs.RunsOfNames.{Fits, const-runs, entity-runs, subscript-runs, all-off, kind-serves, arith-two-runs}

@@ -7,7 +7,7 @@ use Rattle.dc_code.specs.declared.instr.What.{What}
 use Rattle.dc_code.specs.declared.plan.Plan.{Plan}
 use Rattle.dc_code.specs.Codes.{CodeLists}
 use Rattle.dc_code.specs.StackSorts.{Sorts, sorts_after}
-use Rattle.dc_code.specs.WellFormed.{PartOf, main, procedure, header, mask, body, goes_on, target_of, changes, contributes, ends_part, is_load_result, may_change, may_stand}
+use Rattle.dc_code.specs.WellFormed.{PartOf, goes_on, target_of, changes, contributes, ends_part, is_load_result, may_change, may_stand}
 use Rattle.dc_actions.proofs.Facts.{both-hold, both-true}
 use Rattle.dc_actions.proofs.Straight.{can_stand, Ground, Runs}
 

@@ -1,12 +1,10 @@
 -- Places among instructions where nothing is on the stack, and jumps that go to such places.
-use Rattle.std.proofs.Common.{◌≡◌, ◌⊎◌, inl, inr, ◌<◌, ℕ, zero, suc, ◌+◌, true, List, [], ◌∷◌, ◌++◌, length, Option, Some, None, refl, sym, ap, ◌∙◌, subst, arith, append_assoc}
+use Rattle.std.proofs.Common.{◌≡◌, ◌⊎◌, inl, inr, ℕ, zero, suc, ◌+◌, true, List, [], ◌∷◌, ◌++◌, length, Some, refl, sym, ap, ◌∙◌, subst, arith, append_assoc}
 use Rattle.std.proofs.lemmas.List.{length-append}
 use Rattle.std.proofs.lemmas.Option.{none-some}
 use Rattle.std.specs.Prelude.{slice_get}
 use Rattle.dc_code.specs.declared.instr.What.{What}
-use Rattle.dc_code.specs.StackSorts.{Sorts}
 use Rattle.dc_code.specs.WellFormed.{target_of, is_in_direction}
-use Rattle.dc_actions.proofs.Placing.{get-right}
 use Rattle.dc_actions.proofs.Straight.{Ground, Runs}
 use Rattle.dc_flows.proofs.StandFlows.{Flows, flows-both, runs-flow, runs-jumpless}
 

@@ -1,16 +1,16 @@
 -- Single jumps, and tests with a jump behind them.
-use Rattle.std.proofs.Common.{◌≡◌, ◌⊎◌, inl, inr, ◌<◌, ℕ, zero, suc, ◌+◌, true, List, [], ◌∷◌, ◌++◌, length, Option, Some, None, refl, sym, ap, ◌∙◌, subst, arith}
+use Rattle.std.proofs.Common.{◌≡◌, inl, inr, ◌<◌, ℕ, zero, suc, ◌+◌, true, List, [], ◌∷◌, ◌++◌, length, Option, Some, refl, sym, ap, ◌∙◌, subst, arith}
 use Rattle.std.proofs.lemmas.Bool.{lt-ltb}
 use Rattle.std.proofs.lemmas.List.{length-append}
 use Rattle.std.proofs.lemmas.Option.{none-some, same_Some}
 use Rattle.std.specs.Prelude.{slice_get}
 use Rattle.dc_code.specs.declared.instr.What.{What}
-use Rattle.dc_code.specs.StackSorts.{a_truth, Sorts, sorts_after}
+use Rattle.dc_code.specs.StackSorts.{a_truth, sorts_after}
 use Rattle.dc_code.specs.WellFormed.{PartOf, main, procedure, header, mask, body, target_of, is_in_direction}
 use Rattle.dc_actions.proofs.Straight.{Ground, Runs}
 use Rattle.dc_flows.specs.Flows.{test_code}
 use Rattle.dc_flows.proofs.StandFlows.{can_flow, Flows, flows-step, flows-both, runs-flow, runs-jumpless}
-use Rattle.dc_flows.proofs.StandJoints.{Joint, joint-end, joint-at, Jumps, JumpWell, AreJoined, IsLater, first-or-later}
+use Rattle.dc_flows.proofs.StandJoints.{joint-end, joint-at, Jumps, JumpWell, AreJoined, IsLater, first-or-later}
 
 -- ---- jumps can stand in all parts
 

@@ -1,22 +1,20 @@
 -- Loops are joined, where their blocks are.
-use Rattle.std.proofs.Common.{◌≡◌, ◌≤◌, ◌<◌, ℕ, suc, ◌+◌, Bool, true, false, ◌&&◌, cond, List, [], ◌∷◌, ◌++◌, length, map, Option, Some, None, refl, sym, ap, ◌∙◌, subst, arith}
+use Rattle.std.proofs.Common.{◌≡◌, ◌≤◌, ◌<◌, ℕ, ◌+◌, Bool, true, false, ◌&&◌, cond, List, [], ◌∷◌, ◌++◌, length, map, Option, Some, None, refl, sym, ap, ◌∙◌, subst, arith}
 use Rattle.std.proofs.lemmas.Bool.{false≢true}
-use Rattle.std.specs.Prelude.{pos, slice_get}
+use Rattle.std.specs.Prelude.{slice_get}
 use Rattle.dc_int.specs.declared.kind.Kind.{Kind}
 use Rattle.dc_int.specs.Sorts.{whole, kind_of}
 use Rattle.dc_code.specs.declared.instr.Instr.{Instr}
 use Rattle.dc_code.specs.declared.instr.What.{What}
 use Rattle.dc_code.specs.declared.plan.Group.{Group}
 use Rattle.dc_code.specs.StackSorts.{a_truth}
-use Rattle.dc_tree.specs.Blocks.{Line, Items}
-use Rattle.dc_tree.specs.Entities.{Entity, Scope, entity}
+use Rattle.dc_tree.specs.Blocks.{Items}
+use Rattle.dc_tree.specs.Entities.{Scope, entity}
 use Rattle.dc_tree.specs.Statements.{Name, Ranging, Statement, do_line, do_while, concurrent}
 use Rattle.dc_tree.specs.Typing.{sort_of_entity}
 use Rattle.dc_meaning.specs.Execution.{is_concurrent, loops_in_all}
-use Rattle.dc_actions.specs.Assigning.{takes_values}
 use Rattle.dc_actions.specs.Deeds.{lined}
-use Rattle.dc_actions.specs.Expressions.{value_code, is_usable, is_number}
-use Rattle.dc_actions.specs.Limits.{step_is_usable}
+use Rattle.dc_actions.specs.Expressions.{value_code}
 use Rattle.dc_actions.specs.Typed.{limits_are_typed}
 use Rattle.dc_actions.proofs.Facts.{both-true}
 use Rattle.dc_actions.proofs.RunsOfDeeds.{whats_of, whats-lined, there-runs}
@@ -31,7 +29,7 @@ use Rattle.dc_flows.proofs.FlowActions.{ends-sooner}
 use Rattle.dc_flows.proofs.FlowSizes.{counted-size, block-length}
 use Rattle.dc_flows.proofs.StandActions.{test-runs}
 use Rattle.dc_flows.proofs.StandArms.{whats-both, whats-long, whats-behind, line-joined}
-use Rattle.dc_flows.proofs.StandCounts.{AreCounters, head-runs, left-runs, counted-step-runs, IsCounted, is-counted}
+use Rattle.dc_flows.proofs.StandCounts.{AreCounters, head-runs, left-runs, counted-step-runs, is-counted}
 use Rattle.dc_flows.proofs.StandGrounds.{Suits, can-main, Rooms, IsAround}
 use Rattle.dc_flows.proofs.StandJoints.{AreJoined, joined-runs}
 use Rattle.dc_flows.proofs.StandScalars.{scalar-there}
@@ -105,6 +103,13 @@ module _ (ground : Ground) (scope : Scope) (in_main : Bool) (suits : Suits groun
       joined-runs ground out at (What.Enter number ∷ [])
       (runs-step ground [] [] [] (What.Enter number) [] (can-main ground scope in_main suits (What.Enter number) refl e) (λ last. there-runs (slice_get ground.code.constructs number) there.0 [] there.1) refl)
 
+  -- The block of a loop is joined, wherever it stands and whatever is around it.
+  abbrev pub BlockJoined : Items → Type 0
+  BlockJoined body =
+      (inside : Before) (loops : List LoopAround) → Rooms ground inside.texts inside.groups inside.loops (texts_of_block body) (groups_of_block scope body) (loops_in_all body)
+      → block_is_lowered scope in_main (map (λ (loop : LoopAround). loop.label) loops) body ≡ true → block_is_typed scope body ≡ true → (in_main ≡ false → block_is_silent body ≡ true)
+      → EndBehind (inside.at + block_size scope body) loops → AreJoined ground (IsAround loops) inside.at (whats_of (block_code scope inside loops body))
+
   -- A loop in rounds is none that is entered.
   plain-rooms : (before : Before) (body : Items) {groups : List Group} → Rooms ground before.texts before.groups before.loops (texts_of_block body) groups (0 + loops_in_all body)
       → Rooms ground before.texts before.groups before.loops (texts_of_block body) groups (loops_in_all body)
@@ -119,14 +124,7 @@ module _ (ground : Ground) (scope : Scope) (in_main : Bool) (suits : Suits groun
     abbrev inner_of : Rounds → List LoopAround
     inner_of rounds = around_block before.at rounds (block_size scope body) ∷ around
 
-    -- The block of a loop is joined in its rounds.
-    abbrev pub BlockJoined : Type 0
-    BlockJoined =
-        (inside : Before) (loops : List LoopAround) → Rooms ground inside.texts inside.groups inside.loops (texts_of_block body) (groups_of_block scope body) (loops_in_all body)
-        → block_is_lowered scope in_main (map (λ (loop : LoopAround). loop.label) loops) body ≡ true → block_is_typed scope body ≡ true → (in_main ≡ false → block_is_silent body ≡ true)
-        → EndBehind (inside.at + block_size scope body) loops → AreJoined ground (IsAround loops) inside.at (whats_of (block_code scope inside loops body))
-
-    loop-by : (rounds : Rounds) → RoundsRun ground rounds → BlockJoined
+    loop-by : (rounds : Rounds) → RoundsRun ground rounds → BlockJoined body
         → Rooms ground before.texts before.groups before.loops (texts_of_block body) (rounds.groups ++ groups_of_block scope body) (loops_in_all body)
         → block_is_lowered scope in_main (rounds.label ∷ map (λ (loop : LoopAround). loop.label) around) body ≡ true → block_is_typed scope body ≡ true
         → (in_main ≡ false → block_is_silent body ≡ true) → EndBehind (before.at + loop_size (Some rounds) (block_size scope body)) around
@@ -141,7 +139,7 @@ module _ (ground : Ground) (scope : Scope) (in_main : Bool) (suits : Suits groun
           loops_fit = rooms.loops_fit;
         }) so typed silent (omega arith, (omega arith, ends-sooner (begins_at before.at rounds + block_size scope body) (before.at + loop_size (Some rounds) (block_size scope body)) around (omega arith) ends)))
 
-    counted-joined : (label : Option Name) (ranging : Ranging) → BlockJoined
+    counted-joined : (label : Option Name) (ranging : Ranging) → BlockJoined body
         → Rooms ground before.texts before.groups before.loops (texts_of_block body) (groups_of_loop (rounds_of scope 0 (do_line label (Some ranging))) (groups_of_block scope body)) (loops_in_all body)
         → counted_is_lowered scope ranging ≡ true → limits_are_typed scope ranging ≡ true
         → block_is_lowered scope in_main (label ∷ map (λ (loop : LoopAround). loop.label) around) body ≡ true → block_is_typed scope body ≡ true
@@ -161,7 +159,7 @@ module _ (ground : Ground) (scope : Scope) (in_main : Bool) (suits : Suits groun
 
   -- ---- a loop, by its head
 
-  pub loop-joined : (before : Before) (around : List LoopAround) (line : ℕ) (says : Statement) (body : Items) → BlockJoined before around line body
+  pub loop-joined : (before : Before) (around : List LoopAround) (line : ℕ) (says : Statement) (body : Items) → BlockJoined body
       → Rooms ground before.texts before.groups before.loops (cond (is_concurrent says) [] (texts_of_block body)) (groups_of_loop (rounds_of scope 0 says) (groups_of_block scope body))
       (cond (is_concurrent says) 1 0 + loops_in_all body)
       → (head_is_lowered scope in_main says && cond (is_concurrent says) true (block_is_lowered scope in_main (label_of says ∷ map (λ (loop : LoopAround). loop.label) around) body)) ≡ true

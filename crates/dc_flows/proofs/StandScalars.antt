@@ -1,5 +1,5 @@
 -- The sorts that are left where values are kept in scalars, and where they are pushed again.
-use Rattle.std.proofs.Common.{◌≡◌, ℕ, zero, suc, ◌+◌, Bool, true, List, [], ◌∷◌, ◌++◌, length, Some, refl, ap, ◌∙◌}
+use Rattle.std.proofs.Common.{◌≡◌, ℕ, true, [], ◌∷◌, length, Some, refl, ap, ◌∙◌}
 use Rattle.std.specs.Prelude.{option_map, option_and_then, slice_get}
 use Rattle.dc_int.specs.Sorts.{Sort, whole, logical}
 use Rattle.dc_code.specs.declared.instr.What.{What}

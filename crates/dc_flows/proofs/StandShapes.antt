@@ -1,12 +1,11 @@
 -- Joined pieces make joined statements behind tests, arms and rounds.
-use Rattle.std.proofs.Common.{◌≡◌, ◌⊎◌, inl, inr, ◌<◌, ℕ, suc, ◌+◌, List, [], ◌∷◌, ◌++◌, length, refl, sym, ap, ◌∙◌, arith}
+use Rattle.std.proofs.Common.{◌≡◌, ◌⊎◌, inl, inr, ◌<◌, ℕ, ◌+◌, List, [], ◌∷◌, ◌++◌, length, refl, sym, ap, ◌∙◌, arith}
 use Rattle.std.proofs.lemmas.List.{length-append}
 use Rattle.dc_code.specs.declared.instr.What.{What}
 use Rattle.dc_code.specs.StackSorts.{a_truth}
 use Rattle.dc_actions.proofs.Straight.{Ground, Runs, runs-one}
 use Rattle.dc_flows.specs.Flows.{test_code, guarded_code}
-use Rattle.dc_flows.proofs.StandFlows.{Flows}
-use Rattle.dc_flows.proofs.StandJoints.{Joint, joint-start, joint-end, joint-right, joint-at, AreJoined, joined-within, joined-out, joined-runs, joined-both}
+use Rattle.dc_flows.proofs.StandJoints.{Joint, joint-start, joint-end, joint-right, AreJoined, joined-within, joined-out, joined-runs, joined-both}
 use Rattle.dc_flows.proofs.StandJumps.{jump-joined, back-joined, test-joined}
 
 -- One place more outside.

@@ -3,6 +3,7 @@
 
 mod actions;
 mod around;
+mod branches;
 mod cases;
 mod heads;
 mod law;
