@@ -7,6 +7,7 @@ mod branches;
 mod cases;
 mod heads;
 mod law;
+mod looping;
 mod lowering;
 mod rounds;
 mod scalars;
