@@ -1,4 +1,5 @@
 pub mod Adding
+pub mod ArmsMade
 pub mod Arounds
 pub mod Flows
 pub mod FlowsCarried

@@ -1,6 +1,6 @@
 //! The arms of IF.
 
-ghost use Rattle.std.specs.Prelude.{◌≡◌, ◌++◌, ◌+◌, [], ◌∷◌, length, map, OnOk, IsTrue};
+ghost use Rattle.std.specs.Prelude.{◌≡◌, ◌++◌, ◌+◌, [], ◌∷◌, length, IfOk, OnOk, IsTrue};
 ghost use Rattle.dc_code.specs.declared.instr.What.{What};
 ghost use Rattle.dc_form.specs.BuiltPrograms.{is_held};
 ghost use Rattle.dc_tree.specs.Syntax.{tree};
@@ -29,24 +29,29 @@ impl Lowering {
     /// Adds a test, behind which a block of this size and a jump are passed over where it doesn't hold.
     pub(crate) fn guard(
         &mut self,
-        alloc: Global,
-        names: &Names<'_>,
         line: u32,
-        test: &Expr,
+        test: DcList<What>,
         size: u32,
     ) -> Result<(), NoMemory>
-        requires names { AreNamed names.now }
-        requires held { IsTrue (is_held (tree test.now)) }
         ensures { OnOk result (Adds self.old self.new
-            (lined line (test_code (value_code (scope_of names.now) (tree test.now))
-            ((before_of self.old).at + (length (value_code (scope_of names.now) (tree test.now)) + 1)
-            + size + 1))) [] [] 0) }
+            (lined line (test_code test
+            ((before_of self.old).at + (length test + 1) + size + 1))) [] [] 0) }
     {
-        let mut whats = DcList::new(alloc);
-        value(alloc, names, &mut whats, test)?;
+        let mut whats = test;
         let behind = self.place_behind(whats.len() + 1)?;
         let next = sum(sum(behind, size)?, 1)?;
         whats.push(What::JumpFalse { t: next })?;
         self.add(line, whats.as_slice())
     }
+}
+
+/// The instructions of a test.
+pub(crate) fn test(alloc: Global, names: &Names<'_>, test: &Expr) -> Result<DcList<What>, NoMemory>
+    requires names { AreNamed names.now }
+    requires held { IsTrue (is_held (tree test.now)) }
+    ensures { IfOk result (λ whats. whats ≡ value_code (scope_of names.now) (tree test.now)) }
+{
+    let mut whats = DcList::new(alloc);
+    value(alloc, names, &mut whats, test)?;
+    Ok(whats)
 }

@@ -5,6 +5,7 @@ mod actions;
 mod around;
 mod branches;
 mod cases;
+mod counts;
 mod heads;
 mod law;
 mod looping;
