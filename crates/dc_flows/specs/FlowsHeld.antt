@@ -60,6 +60,12 @@ abbrev pub are_held_ranges : Option (List CaseRange) → Bool
 are_held_ranges (Some ranges) = list_all is_held_range ranges
 are_held_ranges None = true
 
+-- ELSE is the last arm.
+abbrev pub ends_arms : Option Tree → Arms → Bool
+ends_arms (Some tree) rest = true
+ends_arms None no_arms = true
+ends_arms None (arm head body rest) = false
+
 -- The block of a DO CONCURRENT is a part of its own.
 abbrev pub inside_has_code : Option Rounds → Bool → Bool
 inside_has_code (Some rounds) inside = inside
@@ -78,7 +84,7 @@ abbrev mutual
 
   pub arms_have_code : Scope → Arms → Bool
   arms_have_code scope no_arms = true
-  arms_have_code scope (arm head body rest) = is_held_test (tested head.says) && (block_has_code scope body && arms_have_code scope rest)
+  arms_have_code scope (arm head body rest) = is_held_test (tested head.says) && (block_has_code scope body && (arms_have_code scope rest && ends_arms (tested head.says) rest))
 
   pub cases_have_code : Scope → Arms → Bool
   cases_have_code scope no_arms = true

@@ -1,5 +1,4 @@
 pub mod Adding
-pub mod ArmsMade
 pub mod Arounds
 pub mod Flows
 pub mod FlowsCarried

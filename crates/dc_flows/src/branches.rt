@@ -27,12 +27,7 @@ impl Lowering {
     }
 
     /// Adds a test, behind which a block of this size and a jump are passed over where it doesn't hold.
-    pub(crate) fn guard(
-        &mut self,
-        line: u32,
-        test: DcList<What>,
-        size: u32,
-    ) -> Result<(), NoMemory>
+    pub(crate) fn guard(&mut self, line: u32, test: DcList<What>, size: u32) -> Result<(), NoMemory>
         ensures { OnOk result (Adds self.old self.new
             (lined line (test_code test
             ((before_of self.old).at + (length test + 1) + size + 1))) [] [] 0) }

@@ -22,7 +22,7 @@ arms_size-loop-arm-preserved t c =
     let next = arms-next arms at item c.loop-arm-test.true c.arm-item.is in
     let all = both-true (subst (λ given. arms_have_code scope given ≡ true) next c.loop-arm.invariant.held) in
     record {
-      held = (both-true all.1).1;
+      held = (both-true (both-true all.1).1).0;
       size =
           arm-added c.loop-arm.size c.in_ok-test-in-Some.test c.in_ok-body.body (arms_size scope rest) _ _ _ _ _ c.in_ok-sum-in-Some.ensures c.in_ok-sum-in-Some-2.ensures
           c.in_ok-sum-in-Some-3.ensures c.in_ok-size-in-Some.ensures
